@@ -1,0 +1,161 @@
+-- P1 to P12 of document 01, "Bench trials", as one list.
+use Prim.Native.Nat.{ℕ, zero, suc}
+use mathlib.Core.Path.{_≡_}
+use mathlib.Core.List.{List, [], _∷_, _++_}
+use mathlib.Core.Bool.{Bool, true, false}
+use Rattle.model.specs.Bytes.{Bytes}
+use Rattle.model.specs.Tree.{Schema}
+use Rattle.model.specs.Read.{Step, got, bad, readSheet}
+use Rattle.model.specs.Filter.{leafCount}
+use Rattle.model.specs.Call.{Answer, bytes, refused, andThen, mergeAnswer, projectAnswer, filterAnswer, normalizeAnswer, containsAnswer}
+
+-- Sheets, piece by piece, as bytes
+
+-- a sheet of one column, of two
+abbrev pub one : Bytes → Bytes
+one f = 0x02 ∷ 0x01 ∷ 0x00 ∷ f
+
+abbrev pub two : Bytes → Bytes → Bytes
+two f g = 0x02 ∷ 0x02 ∷ 0x00 ∷ f ++ g
+
+-- a field with a name of one byte, not nullable; the same nullable, and with the ordered bit
+abbrev pub field : ℕ → Bytes → Bytes
+field name t = 0x04 ∷ 0x01 ∷ 0x00 ∷ name ∷ t
+
+abbrev pub nullable : ℕ → Bytes → Bytes
+nullable name t = 0x05 ∷ 0x01 ∷ 0x00 ∷ name ∷ t
+
+abbrev pub ordered : ℕ → Bytes → Bytes
+ordered name t = 0x06 ∷ 0x01 ∷ 0x00 ∷ name ∷ t
+
+-- `v:T` "is a non-nullable column"
+abbrev pub v : Bytes → Bytes
+v t = one (field 0x76 t)
+
+abbrev pub null : Bytes
+null = 0 ∷ []
+
+abbrev pub int8 : Bytes
+int8 = 2 ∷ []
+
+abbrev pub int32 : Bytes
+int32 = 4 ∷ []
+
+abbrev pub utf8 : Bytes
+utf8 = 24 ∷ []
+
+abbrev pub list : Bytes → Bytes
+list child = 27 ∷ child
+
+abbrev pub struct : ℕ → Bytes → Bytes
+struct n children = 32 ∷ n ∷ 0 ∷ children
+
+abbrev pub union : ℕ → ℕ → Bytes → Bytes
+union mode n children = 33 ∷ mode ∷ n ∷ 0 ∷ children
+
+abbrev pub dictionary : Bytes → Bytes → Bytes
+dictionary key value = 34 ∷ key ++ value
+
+abbrev pub a : ℕ
+a = 0x61
+
+abbrev pub b : ℕ
+b = 0x62
+
+abbrev pub e : ℕ
+e = 0x65
+
+abbrev pub s : ℕ
+s = 0x73
+
+abbrev pub x : ℕ
+x = 0x78
+
+abbrev pub y : ℕ
+y = 0x79
+
+-- The trials: what an operation answers to the bytes, and what it should
+
+pub data Trial : Type 0 where
+  answers : Answer → Answer → Trial
+  counts : ℕ → ℕ → Trial
+
+abbrev pub Holds : Trial → Type 0
+Holds (answers given wanted) = given ≡ wanted
+Holds (counts given wanted) = given ≡ wanted
+
+infixr 20 _and_
+pub data AllHold : List Trial → Type 0 where
+  nothing : AllHold []
+  _and_ : {t : Trial} {ts : List Trial} → Holds t → AllHold ts → AllHold (t ∷ ts)
+
+-- the leaf count of a sheet that reads
+unfoldable pub leavesOf : Step Schema → ℕ
+leavesOf (got t p) = leafCount t
+leavesOf (bad n p) = 0
+
+-- P6: Union{0 x:Int8, 1 x:Int8}
+abbrev pub p6 : Bytes
+p6 = v (union 0 2 ((0 ∷ field x int8) ++ (1 ∷ field x int8)))
+
+-- P9: s:Struct{a:Int32, e:Struct{}}
+abbrev pub p9 : Bytes
+p9 = one (field s (struct 2 (field a int32 ++ field e (struct 0 []))))
+
+-- P11: Dictionary(Int8, Dictionary(Int8, Struct{a:Int8, b:Int8}))
+abbrev pub p11 : Bytes
+p11 = v (dictionary int8 (dictionary int8 (struct 2 (field a int8 ++ field b int8))))
+
+-- P12: an empty union, and one of the same mode with one child
+abbrev pub p12 : Bytes
+p12 = v (union 0 0 [])
+
+abbrev pub p12′ : Bytes
+p12′ = v (union 0 1 (0 ∷ field x int8))
+
+abbrev pub trials : List Trial
+trials =
+    -- P1 empty train: the byte 00
+    answers (mergeAnswer []) (bytes (0x00 ∷ []))
+    -- P2 `v:Null` alone: unchanged
+    ∷ answers (mergeAnswer (v null)) (bytes (v null))
+    -- P3, to the byte
+    ∷ answers
+    (mergeAnswer
+    (0x02 ∷ 0x01 ∷ 0x00 ∷ 0x04 ∷ 0x01 ∷ 0x00 ∷ 0x76 ∷ 0x00 ∷ 0x02 ∷ 0x01 ∷ 0x00 ∷ 0x04 ∷ 0x01 ∷ 0x00 ∷ 0x76 ∷ 0x04 ∷ []))
+    (bytes (0x02 ∷ 0x01 ∷ 0x00 ∷ 0x05 ∷ 0x01 ∷ 0x00 ∷ 0x76 ∷ 0x04 ∷ []))
+    -- P4 `v:Null` twice: nullable Null
+    ∷ answers (mergeAnswer (v null ++ v null)) (bytes (one (nullable 0x76 null)))
+    -- P5 `v:Null`, then ordered Dictionary(Int8, Utf8): 20, place 1
+    ∷ answers (mergeAnswer (v null ++ one (ordered 0x76 (dictionary int8 utf8)))) (refused 20 1)
+    -- P6 Union{0 x:Int8, 1 x:Int8} twice: 23, place 1
+    ∷ answers (mergeAnswer (p6 ++ p6)) (refused 23 1)
+    -- P7 sparse {0 x:Int8}, dense {1 y:Int8}: sparse, both children
+    ∷ answers (mergeAnswer (v (union 0 1 (0 ∷ field x int8)) ++ v (union 1 1 (1 ∷ field y int8))))
+    (bytes (v (union 0 2 ((0 ∷ field x int8) ++ (1 ∷ field y int8)))))
+    -- P8 List(item:Int8), List(element:Int8): child stays item
+    ∷ answers
+    (mergeAnswer
+    (v (list (0x04 ∷ 4 ∷ 0 ∷ 0x69 ∷ 0x74 ∷ 0x65 ∷ 0x6D ∷ int8))
+    ++ v (list (0x04 ∷ 7 ∷ 0 ∷ 0x65 ∷ 0x6C ∷ 0x65 ∷ 0x6D ∷ 0x65 ∷ 0x6E ∷ 0x74 ∷ int8))))
+    (bytes (v (list (0x04 ∷ 4 ∷ 0 ∷ 0x69 ∷ 0x74 ∷ 0x65 ∷ 0x6D ∷ int8))))
+    -- P9, separator ".": level 0 gives `s.a`
+    ∷ answers (normalizeAnswer p9 (0x2E ∷ []) 0) (bytes (one (0x04 ∷ 3 ∷ 0 ∷ s ∷ 0x2E ∷ a ∷ int32)))
+    -- P9, level 1 gives `s.a` and `s.e`
+    ∷ answers (normalizeAnswer p9 (0x2E ∷ []) 1)
+    (bytes (two (0x04 ∷ 3 ∷ 0 ∷ s ∷ 0x2E ∷ a ∷ int32) (0x04 ∷ 3 ∷ 0 ∷ s ∷ 0x2E ∷ e ∷ struct 0 [])))
+    -- P10 list 0, 0 on one column: two columns; strict: 11, place 1
+    ∷ answers (projectAnswer false (v int8) (0 ∷ 0 ∷ 0 ∷ 0 ∷ [])) (bytes (two (field 0x76 int8) (field 0x76 int8)))
+    ∷ answers (projectAnswer true (v int8) (0 ∷ 0 ∷ 0 ∷ 0 ∷ [])) (refused 11 1)
+    -- P11 one leaf, so a mask of one byte fits and no other
+    ∷ counts (leavesOf (readSheet p11)) 1
+    ∷ answers (filterAnswer p11 (1 ∷ [])) (bytes p11)
+    ∷ answers (filterAnswer p11 (1 ∷ 1 ∷ [])) (refused 12 0)
+    -- P12 an empty union contains a same-mode union of one child, not the reverse
+    ∷ answers (containsAnswer p12 p12′) (bytes (1 ∷ []))
+    ∷ answers (containsAnswer p12′ p12) (bytes (0 ∷ []))
+    ∷ []
+
+-- the one statement
+abbrev pub P1toP12 : Type 0
+P1toP12 = AllHold trials
