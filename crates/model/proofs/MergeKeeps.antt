@@ -8,12 +8,13 @@ use lib.ListN.{length}
 use lib.Dec.{T, eqb, leb}
 use borrow.Author.Tests.{eqb-true, eqb-false, ne-eqb, not-true, not-false}
 use Rattle.model.specs.Bytes.{Bytes, Metadata, choose, Every, below, among}
-use Rattle.model.specs.Tree.{FieldOver, DataType, Field, Schema, withChildren, Children, fields, counted, countedWithIds, layout, table}
+use Rattle.model.specs.Tree.{FieldOver, DataType, Field, Schema, withChildren, Children, fields, counted, countedWithIds, layout}
 use Rattle.model.specs.Read.{unless, _then_, above, isText, codeFits, idFits}
 use Rattle.model.specs.Equal.{sameType}
 use Rattle.model.specs.Merge.{Merged, done, clash, _>>=_, need, pour, mergePair, mergeMetadata, mergeByName, mergeChild, idsDiffer, mergeField, mergeEach, isNull, mergeSameCode, mergeType, mergeSchema, empty}
 use Rattle.model.proofs.Gives.{Gives, value, refusal, bind-gives, need-gives, choose-gives, gives-map, pour-keeps}
 use Rattle.model.proofs.Steps.{then-zero, unless-zero, unless-got, then-got}
+use Rattle.model.proofs.Layouts.{struct-children, union-children, list-children}
 use Rattle.model.proofs.WellFormed.{Each, WellFormedPair, WellFormedParams, WellFormedField, WellFormedChildren, WellFormedType, WellFormedColumn, WellFormedSchema}
 
 -- Metadata
@@ -148,27 +149,6 @@ module _ {T : Type 0} (G : Bool → T → Type 0) where
 
 -- Types
 
-struct-kids : (c : ℕ) → c ≡ 32 → layout c .children ≡ counted
-unfolding layout table
-struct-kids c e = ap (λ c. layout c .children) e
-
-union-kids : (c : ℕ) → c ≡ 33 → layout c .children ≡ countedWithIds
-unfolding layout table
-union-kids c e = ap (λ c. layout c .children) e
-
-or-true : (a b : Bool) → (a || b) ≡ true → (a ≡ false → b ≡ true)
-or-true true b h k = absurd (false≢true (sym k))
-or-true false b h k = h
-
-list-kids : (c : ℕ) → (eqb c 27 || eqb c 30) ≡ true → layout c .children ≡ fields 1
-unfolding layout table
-list-kids c h = go (eqb c 27) (eqb c 30) refl refl h
-  where
-    go : (a b : Bool) → eqb c 27 ≡ a → eqb c 30 ≡ b → (a || b) ≡ true → layout c .children ≡ fields 1
-    go true b p q h = ap (λ c. layout c .children) (eqb-true c 27 p)
-    go false true p q h = ap (λ c. layout c .children) (eqb-true c 30 q)
-    go false false p q h = absurd (false≢true h)
-
 plain-kids : (l : ℕ) {k : Children} (ks : List (Field l)) → k ≡ counted → WellFormedChildren (WellFormedType l) k ks → Every (Plain (WellFormedType l)) ks
 plain-kids l ks e g = each-every (λ seen k. Plain (WellFormedType l) k) (Plain (WellFormedType l)) (λ s x w. w) [] ks (subst (λ k. WellFormedChildren (WellFormedType l) k ks) e g)
 
@@ -186,21 +166,21 @@ type-keeps (suc l) o a b n m =
     choose-gives _ _ _ (λ p. refusal) λ d.
     let same : a .code ≡ b .code = eqb-true _ _ (not-false _ d) in
     choose-gives _ _ _ (λ p.
-    let e = struct-kids (a .code) (eqb-true _ 32 p) in
-    let e′ = struct-kids (b .code) (sym same ∙ eqb-true _ 32 p) in
+    let e = struct-children (a .code) (eqb-true _ 32 p) in
+    let e′ = struct-children (b .code) (sym same ∙ eqb-true _ 32 p) in
     bind-gives _ (pour-keeps _ (Every (Plain (WellFormedType l))) (Plain (WellFormedType l)) (merge-by-name-keeps (WellFormedType l) (mergeType l) (isNull l) (type-keeps l)) [] (a .children ++ b .children) tt
     (every-append (Plain (WellFormedType l)) (a .children) (b .children) (plain-kids l (a .children) e (n .2)) (plain-kids l (b .children) e′ (m .2)))) λ ks k.
     value {a = withChildren a ks} (n .0, n .1, subst (λ k. WellFormedChildren (WellFormedType l) k ks) (sym e) (every-each (Plain (WellFormedType l)) [] ks k))) λ p.
     choose-gives _ _ _ (λ p.
-    let e = union-kids (a .code) (eqb-true _ 33 p) in
-    let e′ = union-kids (b .code) (sym same ∙ eqb-true _ 33 p) in
+    let e = union-children (a .code) (eqb-true _ 33 p) in
+    let e′ = union-children (b .code) (sym same ∙ eqb-true _ 33 p) in
     bind-gives _ (pour-keeps _ (Every (Child (WellFormedType l))) (Child (WellFormedType l)) (merge-child-keeps (WellFormedType l) (sameType l)) (a .children) (b .children)
     (child-kids l (a .children) e (n .2)) (child-kids l (b .children) e′ (m .2))) λ ks k.
     need-gives _ 24 (withChildren a ks) λ i.
     (n .0, n .1, subst (λ k. WellFormedChildren (WellFormedType l) k ks) (sym e) (each-ids (WellFormedType l) [] ks k i (none-seen (WellFormedType l) ks)))) λ p.
     choose-gives _ _ _ (λ p.
-    let e = list-kids (a .code) p in
-    let e′ = list-kids (b .code) (ap (λ c. eqb c 27 || eqb c 30) (sym same) ∙ p) in
+    let e = list-children (a .code) p in
+    let e′ = list-children (b .code) (ap (λ c. eqb c 27 || eqb c 30) (sym same) ∙ p) in
     let g = subst (λ k. WellFormedChildren (WellFormedType l) k (a .children)) e (n .2) in
     let h = subst (λ k. WellFormedChildren (WellFormedType l) k (b .children)) e′ (m .2) in
     bind-gives _ (each-keeps (WellFormedType l) (mergeType l) (isNull l) (type-keeps l) (a .children) (b .children)

@@ -5,6 +5,7 @@ use native.Mathlib.Omega.{arith}
 use mathlib.Core.Path.{_≡_, refl, ap, _∙_}
 use mathlib.Core.Bool.{Bool, true, false}
 use lib.Dec.{T}
+use Rattle.model.specs.Bytes.{choose}
 use Rattle.model.specs.Read.{Step, got, bad, next, judged, unless, _then_}
 
 -- P of the value of a reading and the place after it, if it gives one
@@ -25,6 +26,15 @@ next-holds refusal k = refusal
 pub holds-map : {A : Type 0} {P Q : A → ℕ → Type 0} {r : Step A} → Holds P r → ((a : A) (e : ℕ) → P a e → Q a e) → Holds Q r
 holds-map (value {a} {e} h) k = value (k a e h)
 holds-map refusal k = refusal
+
+pub both-hold : {A : Type 0} {P Q : A → ℕ → Type 0} {r : Step A} → Holds P r → Holds Q r → Holds (λ a e. P a e × Q a e) r
+both-hold (value p) h = value (p, of-got h)
+both-hold refusal h = refusal
+
+pub choose-holds : {A : Type 0} {P : A → ℕ → Type 0} (b : Bool) (x y : Unit {0} → Step A) → (b ≡ true → Holds P (x tt)) → (b ≡ false → Holds P (y tt)) → Holds P (choose b x y)
+unfolding choose
+choose-holds true x y h k = h refl
+choose-holds false x y h k = k refl
 
 pub judged-holds : {A : Type 0} {P : A → ℕ → Type 0} (n at : ℕ) (a : A) (e : ℕ) → (n ≡ 0 → P a e) → Holds P (judged n at a e)
 unfolding judged

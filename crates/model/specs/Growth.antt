@@ -38,25 +38,26 @@ pub record GrownField {T : Type 0} (G : Bool → T → T → Type 0) (f g : Fiel
 abbrev pub childBytes : {T : Type 0} → (T → Bytes) → FieldOver T → Bytes
 childBytes write f = f .head .typeId ∷ fieldBytes write f
 
--- How the type a of a field, now nullable or not, became b; `write` and `writeChild` are the bytes of such a type and of its children's types.
-pub data GrownOver {T : Type 0} (write : DataTypeOver (FieldOver T) → Bytes) (writeChild : T → Bytes) (G : Bool → T → T → Type 0) (nullable : Bool) (a b : DataTypeOver (FieldOver T)) : Type 0 where
-  -- "Types and union children count as the same, or identical, when their bytes are equal."
-  identical : write a ≡ write b → GrownOver write writeChild G nullable a b
+-- How the type a of a field, now nullable or not, became b. `type` and `child` give what must be equal for two types, or two union
+-- children, to count as the same.
+pub data GrownOver {T A C : Type 0} (type : DataTypeOver (FieldOver T) → A) (child : FieldOver T → C) (G : Bool → T → T → Type 0) (nullable : Bool) (a b : DataTypeOver (FieldOver T)) : Type 0 where
+  identical : type a ≡ type b → GrownOver type child G nullable a b
   -- "if it was Null and the field holding it is now nullable"
-  wasNull : a .code ≡ Null → nullable ≡ true → GrownOver write writeChild G nullable a b
+  wasNull : a .code ≡ Null → nullable ≡ true → GrownOver type child G nullable a b
   -- "if Struct still begins with its old children in order, each grown"
-  struct : a .code ≡ Struct → b .code ≡ Struct → Begins (GrownField G) (a .children) (b .children) → GrownOver write writeChild G nullable a b
+  struct : a .code ≡ Struct → b .code ≡ Struct → Begins (GrownField G) (a .children) (b .children) → GrownOver type child G nullable a b
   -- "if List or LargeList has its child grown"
-  list : a .code ≡ List′ → b .code ≡ List′ → Pairwise (GrownField G) (a .children) (b .children) → GrownOver write writeChild G nullable a b
-  largeList : a .code ≡ LargeList → b .code ≡ LargeList → Pairwise (GrownField G) (a .children) (b .children) → GrownOver write writeChild G nullable a b
+  list : a .code ≡ List′ → b .code ≡ List′ → Pairwise (GrownField G) (a .children) (b .children) → GrownOver type child G nullable a b
+  largeList : a .code ≡ LargeList → b .code ≡ LargeList → Pairwise (GrownField G) (a .children) (b .children) → GrownOver type child G nullable a b
   -- "if Union keeps its mode and begins with the same children and ids"
-  union : a .code ≡ Union → b .code ≡ Union → a .params ≡ b .params
-      → Begins (λ x y. childBytes writeChild x ≡ childBytes writeChild y) (a .children) (b .children) → GrownOver write writeChild G nullable a b
+  union : a .code ≡ Union → b .code ≡ Union → a .params ≡ b .params → Begins (λ x y. child x ≡ child y) (a .children) (b .children)
+    → GrownOver type child G nullable a b
 
--- the type is identical or grew, under a field that is now nullable or not
+-- The type is identical or grew, under a field that is now nullable or not. "Types and union children count as the same, or identical,
+-- when their bytes are equal."
 abbrev pub Grown : (l : ℕ) → Bool → DataType l → DataType l → Type 0
 Grown zero nullable a b = ⊥
-Grown (suc l) nullable a b = GrownOver (typeBytes (suc l)) (typeBytes l) (Grown l) nullable a b
+Grown (suc l) nullable a b = GrownOver (typeBytes (suc l)) (childBytes (typeBytes l)) (Grown l) nullable a b
 
 -- each column at the same index, and the schema's own metadata kept
 pub record GrownSchema (x y : Schema) : Type 0 where
