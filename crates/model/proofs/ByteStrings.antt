@@ -6,10 +6,7 @@ use mathlib.Core.Bool.{Bool, true, false, _&&_, false≢true}
 use lib.Dec.{eqb}
 use borrow.Author.Tests.{eqb-true, eq-eqb}
 use Rattle.model.specs.Bytes.{Bytes, same, sameBytes}
-
-pub and-true : (a b : Bool) → (a && b) ≡ true → (a ≡ true) × (b ≡ true)
-and-true true b h = (refl, h)
-and-true false b h = absurd (false≢true h)
+use Rattle.model.proofs.Lists.{and-true}
 
 pub same-bytes-eq : (a b : Bytes) → sameBytes a b ≡ true → a ≡ b
 unfolding same

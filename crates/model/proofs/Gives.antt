@@ -32,10 +32,6 @@ pub gives-map : {A : Type 0} {P Q : A → Type 0} {r : Merged A} → Gives P r �
 gives-map (value {a} h) k = value (k a h)
 gives-map refusal k = refusal
 
-pub every-unit : {A : Type 0} (xs : List A) → Every (λ x. Unit {0}) xs
-every-unit [] = tt
-every-unit (x ∷ xs) = (tt, every-unit xs)
-
 -- a relation that each step keeps, and an invariant of what there is and of what comes
 pub pour-gives : {A B : Type 0} (put : A → B → Merged A) (I : A → Type 0) (J : B → Type 0) (R : A → A → Type 0)
     → ((a : A) → R a a) → ((a b c : A) → R a b → R b c → R a c)

@@ -14,9 +14,9 @@ use Rattle.model.specs.Sheet.{each, part, stands, withCount, textBytes, 
 use Rattle.model.specs.Equal.{sameType}
 use Rattle.model.specs.Merge.{Merged, done, clash, _>>=_, need, pour, mergePair, mergeMetadata, mergeByName, mergeChild, mergeField, mergeEach, isNull, mergeSameCode, mergeType, mergeSchema}
 use Rattle.model.specs.Growth.{Begins, here, onto, Pairwise, none, pair, Kept, GrownField, GrownOver, identical, wasNull, struct, list, largeList, union, childBytes, Grown, GrownSchema, names}
-use Rattle.model.proofs.ByteStrings.{same-bytes-eq}
+use Rattle.model.proofs.Lists.{or-left, or-right, every-unit}
 use Rattle.model.proofs.Layouts.{struct-children, union-children, list-children}
-use Rattle.model.proofs.Gives.{Gives, value, refusal, bind-gives, need-gives, choose-gives, gives-map, every-unit, pour-gives, pour-append, choose-true, choose-false}
+use Rattle.model.proofs.Gives.{Gives, value, refusal, bind-gives, need-gives, choose-gives, gives-map, pour-gives, pour-append, choose-true, choose-false}
 
 -- Lists that begin with others
 
@@ -78,7 +78,7 @@ unfolding mergePair
 pair-lasts n [] p = value {a = p ∷ []} (λ q i. List·Memᴰ·tail i, omega arith, refl)
 pair-lasts n (q ∷ qs) p =
     choose-gives _ _ _ (λ b. bind-gives _ (pair-lasts n qs p) λ r k.
-      value {a = q ∷ r} (kept-cons q qs r (k .0), omega (arith, k .1, length-append (pairBytes q) (each pairBytes qs), length-append (pairBytes q) (each pairBytes r)), refl)) λ b.
+    value {a = q ∷ r} (kept-cons q qs r (k .0), omega (arith, k .1, length-append (pairBytes q) (each pairBytes qs), length-append (pairBytes q) (each pairBytes r)), refl)) λ b.
     choose-gives _ _ _ (λ b. value {a = p ∷ q ∷ qs} (λ x i. List·Memᴰ·tail i, omega (arith, length-append (pairBytes p) (each pairBytes (q ∷ qs))), refl)) λ b.
     need-gives _ n (q ∷ qs) λ e. (kept-refl (q ∷ qs), omega arith, refl)
 
@@ -92,9 +92,9 @@ metadata-lasts : (n : ℕ) (a b : Metadata) → Gives (λ r. Lasts a r) (mergeMe
 unfolding mergeMetadata
 metadata-lasts n a b =
     gives-map
-      (pour-gives (mergePair n) (λ a. Unit {0}) (λ x. Unit {0}) Lasts (λ a. record { kept = kept-refl a; longer = omega arith })
-        (λ a b c p q. record { kept = kept-trans a b c (p .kept) (q .kept); longer = omega (arith, p .longer, q .longer) })
-        (λ a x i j. gives-map (pair-lasts n a x) λ b k. (tt, record { kept = k .0; longer = part-longer a b (k .1) (k .2) })) a b tt (every-unit b)) λ r k.
+    (pour-gives (mergePair n) (λ a. Unit {0}) (λ x. Unit {0}) Lasts (λ a. record { kept = kept-refl a; longer = omega arith })
+    (λ a b c p q. record { kept = kept-trans a b c (p .kept) (q .kept); longer = omega (arith, p .longer, q .longer) })
+    (λ a x i j. gives-map (pair-lasts n a x) λ b k. (tt, record { kept = k .0; longer = part-longer a b (k .1) (k .2) })) a b tt (every-unit b)) λ r k.
     k .1
 
 -- To have grown is reflexive and transitive
@@ -104,14 +104,15 @@ module _ {T : Type 0} (G : Bool → T → T → Type 0) where
   field-refl r f = record { name = refl; dictIsOrdered = refl; metadata = kept-refl _; nullable = λ e. e; dataType = r _ _ }
 
   pub field-trans : ((m n : Bool) (a b c : T) → (m ≡ true → n ≡ true) → G m a b → G n b c → G n a c)
-    → (f g h : FieldOver T) → GrownField G f g → GrownField G g h → GrownField G f h
+      → (f g h : FieldOver T) → GrownField G f g → GrownField G g h → GrownField G f h
   field-trans t f g h p q =
       record {
         name = p .name ∙ q .name;
         dictIsOrdered = p .dictIsOrdered ∙ q .dictIsOrdered;
         metadata = kept-trans _ _ _ (p .metadata) (q .metadata);
         nullable = λ e. q .nullable (p .nullable e);
-        dataType = t _ _ _ _ _ (q .nullable) (p .dataType) (q .dataType) }
+        dataType = t _ _ _ _ _ (q .nullable) (p .dataType) (q .dataType);
+      }
 
 -- `Grown` with sameness of trees
 abbrev pub Grows : (l : ℕ) → Bool → DataType l → DataType l → Type 0
@@ -124,7 +125,7 @@ grows-refl (suc l) n t = identical refl
 
 -- what stands under a field that may now be nullable where it was not
 weaken : {T : Type 0} {G : Bool → T → T → Type 0} {m n : Bool} {a b : DataTypeOver (FieldOver T)} → (m ≡ true → n ≡ true)
-  → GrownOver (λ t. t) (λ f. f) G m a b → GrownOver (λ t. t) (λ f. f) G n a b
+    → GrownOver (λ t. t) (λ f. f) G m a b → GrownOver (λ t. t) (λ f. f) G n a b
 weaken up (identical e) = identical e
 weaken up (wasNull e k) = wasNull e (up k)
 weaken up (struct p q k) = struct p q k
@@ -137,8 +138,8 @@ clashing : {A : Type 0} {c m n : ℕ} → c ≡ m → c ≡ n → (m ≡ n → �
 clashing p q d = absurd (d (sym p ∙ q))
 
 over-trans : {T : Type 0} (G : Bool → T → T → Type 0) → ((m n : Bool) (a b c : T) → (m ≡ true → n ≡ true) → G m a b → G n b c → G n a c)
-  → (m n : Bool) (a b c : DataTypeOver (FieldOver T)) → (m ≡ true → n ≡ true)
-  → GrownOver (λ t. t) (λ f. f) G m a b → GrownOver (λ t. t) (λ f. f) G n b c → GrownOver (λ t. t) (λ f. f) G n a c
+    → (m n : Bool) (a b c : DataTypeOver (FieldOver T)) → (m ≡ true → n ≡ true)
+    → GrownOver (λ t. t) (λ f. f) G m a b → GrownOver (λ t. t) (λ f. f) G n b c → GrownOver (λ t. t) (λ f. f) G n a c
 over-trans G t m n a b c up (identical e) y = subst (λ x. GrownOver (λ t. t) (λ f. f) G n x c) (sym e) y
 over-trans G t m n a b c up (wasNull e k) y = wasNull e (up k)
 over-trans G t m n a b c up (struct p q k) (identical e) = subst (λ x. GrownOver (λ t. t) (λ f. f) G n a x) e (weaken up (struct p q k))
@@ -175,8 +176,8 @@ field-map k f g h = record { name = h .name; dictIsOrdered = h .dictIsOrdered; m
 
 -- what is the same as a tree is the same by whatever is compared
 over-map : {T A C : Type 0} (type : DataTypeOver (FieldOver T) → A) (child : FieldOver T → C) {G H : Bool → T → T → Type 0}
-  → ((n : Bool) (a b : T) → G n a b → H n a b) → (n : Bool) (a b : DataTypeOver (FieldOver T))
-  → GrownOver (λ t. t) (λ f. f) G n a b → GrownOver type child H n a b
+    → ((n : Bool) (a b : T) → G n a b → H n a b) → (n : Bool) (a b : DataTypeOver (FieldOver T))
+    → GrownOver (λ t. t) (λ f. f) G n a b → GrownOver type child H n a b
 over-map type child g n a b (identical e) = identical (ap type e)
 over-map type child g n a b (wasNull e k) = wasNull e k
 over-map type child g n a b (struct p q k) = struct p q (begins-map (field-map g) k)
@@ -250,8 +251,7 @@ pub record Grew {T : Type 0} (write : T → Bytes) (G : Bool → T → T → Typ
   pub longer : length (fieldBytes write f) ≤ length (fieldBytes write g)
 
 module _ {T : Type 0} (write : T → Bytes) (G : Bool → T → T → Type 0) (grown-refl : (n : Bool) (t : T) → G n t t)
-  (grown-trans : (m n : Bool) (a b c : T) → (m ≡ true → n ≡ true) → G m a b → G n b c → G n a c) where
-
+    (grown-trans : (m n : Bool) (a b c : T) → (m ≡ true → n ≡ true) → G m a b → G n b c → G n a c) where
   pub grew-refl : (f : FieldOver T) → Grew write G f f
   grew-refl f = record { grown = field-refl G grown-refl f; longer = omega arith }
 
@@ -259,27 +259,26 @@ module _ {T : Type 0} (write : T → Bytes) (G : Bool → T → T → Type 0) (g
   grew-trans f g h p q = record { grown = field-trans G grown-trans f g h (p .grown) (q .grown); longer = omega (arith, p .longer, q .longer) }
 
   module _ (N : T → Type 0) (merge : FieldOver T → FieldOver T → Merged (FieldOver T))
-    (merge-grows : (f g : FieldOver T) → N (f .dataType) → N (g .dataType) → Gives (λ h. N (h .dataType) × Grew write G f h) (merge f g)) where
-
+      (merge-grows : (f g : FieldOver T) → N (f .dataType) → N (g .dataType) → Gives (λ h. N (h .dataType) × Grew write G f h) (merge f g)) where
     -- what a list of fields has become
     pub record Became (old new : List (FieldOver T)) : Type 0 where
       pub tidy : Every (λ f. N (f .dataType)) new
       pub grown : Begins (Grew write G) old new
 
     by-name-grows : (gs : List (FieldOver T)) (f : FieldOver T) → Every (λ f. N (f .dataType)) gs → N (f .dataType)
-      → Gives (λ r. Became gs r × (names r ≡ put-name (names gs) (f .head .name))) (mergeByName merge gs f)
+        → Gives (λ r. Became gs r × (names r ≡ put-name (names gs) (f .head .name))) (mergeByName merge gs f)
     unfolding mergeByName put-name
     by-name-grows [] f e n = value {a = f ∷ []} (record { tidy = (n, tt); grown = here }, refl)
     by-name-grows (g ∷ gs) f e n =
         choose-gives _ _ _
         (λ b. bind-gives _ (merge-grows g f (e .0) n) λ h k.
-          value {a = h ∷ gs} (record { tidy = (k .0, e .1); grown = onto (k .1) (begins-refl grew-refl gs) }, ap (λ x. x ∷ names gs) (sym (k .1 .grown .name)) ∙ sym (choose-true _ _ _ b)))
+        value {a = h ∷ gs} (record { tidy = (k .0, e .1); grown = onto (k .1) (begins-refl grew-refl gs) }, ap (λ x. x ∷ names gs) (sym (k .1 .grown .name)) ∙ sym (choose-true _ _ _ b)))
         λ b. bind-gives _ (by-name-grows gs f (e .1) n) λ r k.
-          value {a = g ∷ r} (record { tidy = (e .0, k .0 .tidy); grown = onto (grew-refl g) (k .0 .grown) }, ap (λ x. g .head .name ∷ x) (k .1) ∙ sym (choose-false _ _ _ b))
+        value {a = g ∷ r} (record { tidy = (e .0, k .0 .tidy); grown = onto (grew-refl g) (k .0 .grown) }, ap (λ x. g .head .name ∷ x) (k .1) ∙ sym (choose-false _ _ _ b))
 
     -- pouring into fields of which no two have one name
     pub pour-grows : (gs fs : List (FieldOver T)) → Apart (names gs) → Every (λ f. N (f .dataType)) gs → Every (λ f. N (f .dataType)) fs
-      → Gives (λ r. Became gs r × Apart (names r)) (pour (mergeByName merge) gs fs)
+        → Gives (λ r. Became gs r × Apart (names r)) (pour (mergeByName merge) gs fs)
     unfolding pour
     pour-grows gs [] d e k = value (record { tidy = e; grown = begins-refl grew-refl gs }, d)
     pour-grows gs (f ∷ fs) d e k =
@@ -289,26 +288,19 @@ module _ {T : Type 0} (write : T → Bytes) (G : Bool → T → T → Type 0) (g
 
     -- and one list after the other into nothing
     pour-both : (gs fs : List (FieldOver T)) → Apart (names gs) → Every (λ f. N (f .dataType)) gs → Every (λ f. N (f .dataType)) fs
-      → Gives (λ r. Became gs r × Apart (names r)) (pour (mergeByName merge) [] (gs ++ fs))
+        → Gives (λ r. Became gs r × Apart (names r)) (pour (mergeByName merge) [] (gs ++ fs))
     unfolding pour _>>=_
     pour-both gs fs d e k =
         rw (pour-append (mergeByName merge) [] gs fs, pour-distinct merge [] gs d, _>>=_) (pour-grows gs fs d e k)
 
 -- union children: those that there are stay, and none is shorter
 child-grows : {T : Type 0} (eq : T → T → Bool) (N : T → Type 0) (gs : List (FieldOver T)) (f : FieldOver T) → Every (λ f. N (f .dataType)) gs → N (f .dataType)
-  → Gives (λ r. Every (λ f. N (f .dataType)) r × Begins (λ x y. x ≡ y) gs r) (mergeChild eq gs f)
+    → Gives (λ r. Every (λ f. N (f .dataType)) r × Begins (λ x y. x ≡ y) gs r) (mergeChild eq gs f)
 unfolding mergeChild
 child-grows eq N [] f e n = value {a = f ∷ []} ((n, tt), here)
 child-grows eq N (g ∷ gs) f e n =
     choose-gives _ _ _ (λ b. need-gives _ 23 _ λ q. (e, begins-refl (λ x. refl) (g ∷ gs))) λ b.
     bind-gives _ (child-grows eq N gs f (e .1) n) λ r k. value {a = g ∷ r} ((e .0, k .0), onto refl (k .1))
-
-or-left : (a b : Bool) → a ≡ true → (a || b) ≡ true
-or-left a b h = ap (λ x. x || b) h
-
-or-right : (a b : Bool) → b ≡ true → (a || b) ≡ true
-or-right true b h = refl
-or-right false b h = h
 
 or-1 : (a b c d : Bool) → a ≡ true → (a || b || c || d) ≡ true
 or-1 a b c d h = or-left (a || b || c) d (or-left (a || b) c (or-left a b h))
@@ -318,11 +310,14 @@ or-3 a b c d h = or-left (a || b || c) d (or-right (a || b) c h)
 
 -- a field's length is its map's, its name's, its metadata's and its type's
 field-length : {T : Type 0} (write : T → Bytes) (f : FieldOver T)
-  → length (fieldBytes write f) ≡ 1 + (length (part textBytes (f .head .name)) + length (metadataPart (f .head .metadata))) + length (write (f .dataType))
+    → length (fieldBytes write f) ≡ 1 + (length (part textBytes (f .head .name)) + length (metadataPart (f .head .metadata))) + length (write (f .dataType))
 unfolding fieldBytes headBytes metadataPart
 field-length write f =
-    omega (arith, length-append (headBytes (f .head)) (write (f .dataType)),
-      length-append (part textBytes (f .head .name)) (part (withCount pairBytes) (f .head .metadata)))
+    omega (
+      arith,
+      length-append (headBytes (f .head)) (write (f .dataType)),
+      length-append (part textBytes (f .head .name)) (part (withCount pairBytes) (f .head .metadata)),
+    )
 
 -- what merging two types gives: tidy, grown from the first under a field that is nullable where the first was Null, and no shorter
 pub record TypeGrew {T : Type 0} (write : T → Bytes) (G : Bool → T → T → Type 0) (N : T → Type 0) (isNull : T → Bool) (a t : T) : Type 0 where
@@ -331,23 +326,29 @@ pub record TypeGrew {T : Type 0} (write : T → Bytes) (G : Bool → T → T →
   pub longer : length (write a) ≤ length (write t)
 
 module _ {T : Type 0} (write : T → Bytes) (G : Bool → T → T → Type 0) (N : T → Type 0) (merge : T → T → Merged T) (isNull : T → Bool)
-  (merge-grows : (a b : T) → N a → N b → Gives (λ t. TypeGrew write G N isNull a t) (merge a b)) where
-
+    (merge-grows : (a b : T) → N a → N b → Gives (λ t. TypeGrew write G N isNull a t) (merge a b)) where
   field-grows : (f g : FieldOver T) → N (f .dataType) → N (g .dataType) → Gives (λ h. N (h .dataType) × Grew write G f h) (mergeField merge isNull f g)
   unfolding mergeField
   field-grows f g n m =
       bind-gives {P = λ u. Unit {0}} _ (need-gives _ 20 tt λ e. tt) λ u h.
       bind-gives _ (metadata-lasts 21 (f .head .metadata) (g .head .metadata)) λ d k.
       bind-gives _ (merge-grows (f .dataType) (g .dataType) n m) λ t q.
-      value (q .tidy, record {
-        grown = record {
-          name = refl; dictIsOrdered = refl; metadata = k .kept;
-          nullable = or-1 (f .head .nullable) (g .head .nullable) (isNull (f .dataType)) (isNull (g .dataType));
-          dataType = q .grown _ (or-3 (f .head .nullable) (g .head .nullable) (isNull (f .dataType)) (isNull (g .dataType))) };
-        longer = omega (arith, field-length write f, field-length write (record { head = record { typeId = f .head .typeId; nullable = f .head .nullable || g .head .nullable || isNull (f .dataType) || isNull (g .dataType); dictIsOrdered = f .head .dictIsOrdered; name = f .head .name; metadata = d }; dataType = t }), k .longer, q .longer) })
+      value (
+        q .tidy,
+        record {
+          grown = record {
+            name = refl;
+            dictIsOrdered = refl;
+            metadata = k .kept;
+            nullable = or-1 (f .head .nullable) (g .head .nullable) (isNull (f .dataType)) (isNull (g .dataType));
+            dataType = q .grown _ (or-3 (f .head .nullable) (g .head .nullable) (isNull (f .dataType)) (isNull (g .dataType)));
+          };
+          longer = omega (arith, field-length write f, field-length write (record { head = record { typeId = f .head .typeId; nullable = f .head .nullable || g .head .nullable || isNull (f .dataType) || isNull (g .dataType); dictIsOrdered = f .head .dictIsOrdered; name = f .head .name; metadata = d }; dataType = t }), k .longer, q .longer);
+        },
+      )
 
   each-grows : ((n : Bool) (t : T) → G n t t) → (fs gs : List (FieldOver T)) → Every (λ f. N (f .dataType)) fs → Every (λ f. N (f .dataType)) gs
-    → Gives (λ r. Every (λ f. N (f .dataType)) r × Pairwise (Grew write G) fs r) (mergeEach merge isNull fs gs)
+      → Gives (λ r. Every (λ f. N (f .dataType)) r × Pairwise (Grew write G) fs r) (mergeEach merge isNull fs gs)
   unfolding mergeEach
   each-grows r [] gs e k = value {a = []} (tt, none)
   each-grows r (f ∷ fs) [] e k = value (e, pairwise-refl (λ f. record { grown = field-refl G r f; longer = omega arith }) (f ∷ fs))
@@ -359,7 +360,7 @@ module _ {T : Type 0} (write : T → Bytes) (G : Bool → T → T → Type 0) (N
 -- A type of the same code and parameters is no shorter where its children are none
 
 longer-by : {T : Type 0} (write : T → Bytes) (k : Children) {xs ys : List (FieldOver T)} → Begins (λ f g. length (fieldBytes write f) ≤ length (fieldBytes write g)) xs ys
-  → (k ≡ counted) ⊎ (k ≡ fields 1) → length (childrenBytes write k xs) ≤ length (childrenBytes write k ys)
+    → (k ≡ counted) ⊎ (k ≡ fields 1) → length (childrenBytes write k xs) ≤ length (childrenBytes write k ys)
 unfolding childrenBytes withCount u16
 longer-by write k {xs} {ys} h (inl e) =
     let w = each-longer (fieldBytes write) (λ f g p. p) h in
@@ -368,26 +369,30 @@ longer-by write k {xs} {ys} h (inr e) =
     subst (λ k. length (childrenBytes write k xs) ≤ length (childrenBytes write k ys)) (sym e) (each-longer (fieldBytes write) (λ f g p. p) h)
 
 union-longer : {T : Type 0} (write : T → Bytes) (k : Children) {xs ys : List (FieldOver T)} → Begins (λ f g. f ≡ g) xs ys → k ≡ countedWithIds
-  → length (childrenBytes write k xs) ≤ length (childrenBytes write k ys)
+    → length (childrenBytes write k xs) ≤ length (childrenBytes write k ys)
 unfolding childrenBytes withCount u16
 union-longer write k {xs} {ys} h e =
     let w = each-longer (childBytes write) (λ f g p. omega (arith, ap (λ x. length (childBytes write x)) p)) h in
     subst (λ k. length (childrenBytes write k xs) ≤ length (childrenBytes write k ys)) (sym e) (omega (arith, w))
 
 with-longer : (l : ℕ) (a : DataType (suc l)) (ks : List (Field l))
-  → length (childrenBytes (typeBytes l) (layout (a .code) .children) (a .children)) ≤ length (childrenBytes (typeBytes l) (layout (a .code) .children) ks)
-  → length (typeBytes (suc l) a) ≤ length (typeBytes (suc l) (withChildren a ks))
+    → length (childrenBytes (typeBytes l) (layout (a .code) .children) (a .children)) ≤ length (childrenBytes (typeBytes l) (layout (a .code) .children) ks)
+    → length (typeBytes (suc l) a) ≤ length (typeBytes (suc l) (withChildren a ks))
 unfolding typeBytes
 with-longer l a ks h =
-    omega (arith, h, length-append (a .params) (childrenBytes (typeBytes l) (layout (a .code) .children) (a .children)),
-      length-append (a .params) (childrenBytes (typeBytes l) (layout (a .code) .children) ks))
+    omega (
+      arith,
+      h,
+      length-append (a .params) (childrenBytes (typeBytes l) (layout (a .code) .children) (a .children)),
+      length-append (a .params) (childrenBytes (typeBytes l) (layout (a .code) .children) ks),
+    )
 
 some-bytes : (l : ℕ) (t : DataType (suc l)) → 1 ≤ length (typeBytes (suc l) t)
 unfolding typeBytes
 some-bytes l t = omega arith
 
 grown-list : {T : Type 0} {G : Bool → T → T → Type 0} (now : Bool) (a b : DataTypeOver (FieldOver T)) → (eqb (a .code) List′ || eqb (a .code) LargeList) ≡ true → a .code ≡ b .code
-  → Pairwise (GrownField G) (a .children) (b .children) → GrownOver (λ t. t) (λ f. f) G now a b
+    → Pairwise (GrownField G) (a .children) (b .children) → GrownOver (λ t. t) (λ f. f) G now a b
 grown-list {G = G} now a b h same k = go (eqb (a .code) List′) (eqb (a .code) LargeList) refl refl h
   where
     go : (x y : Bool) → eqb (a .code) List′ ≡ x → eqb (a .code) LargeList ≡ y → (x || y) ≡ true → GrownOver (λ t. t) (λ f. f) G now a b
@@ -406,28 +411,31 @@ type-grows (suc l) a b n m =
     choose-gives _ _ _ (λ p. value (record { tidy = n; grown = λ now k. identical refl; longer = omega arith })) λ p.
     choose-gives _ _ _ (λ p. refusal) λ p.
     choose-gives _ _ _ (λ p.
-      let c : a .code ≡ 32 = eqb-true _ 32 p in
-      bind-gives _ (pour-both (typeBytes l) (Grows l) (grows-refl l) (grows-trans l) (Tidy l) _ (field-grows (typeBytes l) (Grows l) (Tidy l) (mergeType l) (isNull l) (type-grows l))
-        (a .children) (b .children) (n .0 c) (n .2) (m .2)) λ ks k.
-      value {a = withChildren a ks} (record {
-        tidy = (λ e. k .1, λ e. not-null _ z e, k .0 .tidy);
-        grown = λ now u. struct c c (begins-map (λ f g w. w .grown) (k .0 .grown));
-        longer = with-longer l a ks (longer-by (typeBytes l) _ (begins-map (λ f g w. w .longer) (k .0 .grown)) (inl (struct-children _ c))) })) λ s.
+    let c : a .code ≡ 32 = eqb-true _ 32 p in
+    bind-gives _ (pour-both (typeBytes l) (Grows l) (grows-refl l) (grows-trans l) (Tidy l) _ (field-grows (typeBytes l) (Grows l) (Tidy l) (mergeType l) (isNull l) (type-grows l))
+    (a .children) (b .children) (n .0 c) (n .2) (m .2)) λ ks k.
+    value {a = withChildren a ks} (record {
+      tidy = (λ e. k .1, λ e. not-null _ z e, k .0 .tidy);
+      grown = λ now u. struct c c (begins-map (λ f g w. w .grown) (k .0 .grown));
+      longer = with-longer l a ks (longer-by (typeBytes l) _ (begins-map (λ f g w. w .longer) (k .0 .grown)) (inl (struct-children _ c)));
+    })) λ s.
     choose-gives _ _ _ (λ p.
-      let c : a .code ≡ 33 = eqb-true _ 33 p in
-      bind-gives _ (pour-gives (mergeChild (sameType l)) (Every (λ f. Tidy l (f .dataType))) (λ f. Tidy l (f .dataType)) (Begins (λ x y. x ≡ y))
-        (begins-refl (λ x. refl)) (λ x y z. begins-trans (λ a b c p q. p ∙ q)) (child-grows (sameType l) (Tidy l)) (a .children) (b .children) (n .2) (m .2)) λ ks k.
-      need-gives _ 24 (withChildren a ks) λ i.
-      record {
-        tidy = (λ e. absurd (eqb-false _ 32 s e), λ e. not-null _ z e, k .0);
-        grown = λ now u. union c c refl (k .1);
-        longer = with-longer l a ks (union-longer (typeBytes l) _ (k .1) (union-children _ c)) }) λ q.
+    let c : a .code ≡ 33 = eqb-true _ 33 p in
+    bind-gives _ (pour-gives (mergeChild (sameType l)) (Every (λ f. Tidy l (f .dataType))) (λ f. Tidy l (f .dataType)) (Begins (λ x y. x ≡ y))
+    (begins-refl (λ x. refl)) (λ x y z. begins-trans (λ a b c p q. p ∙ q)) (child-grows (sameType l) (Tidy l)) (a .children) (b .children) (n .2) (m .2)) λ ks k.
+    need-gives _ 24 (withChildren a ks) λ i.
+    record {
+      tidy = (λ e. absurd (eqb-false _ 32 s e), λ e. not-null _ z e, k .0);
+      grown = λ now u. union c c refl (k .1);
+      longer = with-longer l a ks (union-longer (typeBytes l) _ (k .1) (union-children _ c));
+    }) λ q.
     choose-gives _ _ _ (λ p.
-      bind-gives _ (each-grows (typeBytes l) (Grows l) (Tidy l) (mergeType l) (isNull l) (type-grows l) (grows-refl l) (a .children) (b .children) (n .2) (m .2)) λ ks k.
-      value {a = withChildren a ks} (record {
-        tidy = (λ e. absurd (eqb-false _ 32 s e), λ e. not-null _ z e, k .0);
-        grown = λ now u. grown-list now a (withChildren a ks) p refl (pairwise-map (λ f g w. w .grown) (k .1));
-        longer = with-longer l a ks (longer-by (typeBytes l) _ (begins-map (λ f g w. w .longer) (pairwise-begins (k .1))) (inr (list-children _ p))) })) λ r.
+    bind-gives _ (each-grows (typeBytes l) (Grows l) (Tidy l) (mergeType l) (isNull l) (type-grows l) (grows-refl l) (a .children) (b .children) (n .2) (m .2)) λ ks k.
+    value {a = withChildren a ks} (record {
+      tidy = (λ e. absurd (eqb-false _ 32 s e), λ e. not-null _ z e, k .0);
+      grown = λ now u. grown-list now a (withChildren a ks) p refl (pairwise-map (λ f g w. w .grown) (k .1));
+      longer = with-longer l a ks (longer-by (typeBytes l) _ (begins-map (λ f g w. w .longer) (pairwise-begins (k .1))) (inr (list-children _ p)));
+    })) λ r.
     need-gives _ 22 a λ e. record { tidy = n; grown = λ now k. identical refl; longer = omega arith }
 
 -- Schemas
@@ -453,14 +461,21 @@ unfolding mergeSchema sheetBytes metadataPart
 schema-grows x y i j =
     bind-gives _ (metadata-lasts 25 (x .metadata) (y .metadata)) λ d k.
     bind-gives _ (pour-grows (typeBytes 32) (Grows 32) (grows-refl 32) (grows-trans 32) (Tidy 32) _ (field-grows (typeBytes 32) (Grows 32) (Tidy 32) (mergeType 32) (isNull 32) (type-grows 32))
-      (x .columns) (y .columns) (i .apart) (i .tidy) j) λ cs q.
-    value (record { apart = q .1; tidy = q .0 .tidy },
+    (x .columns) (y .columns) (i .apart) (i .tidy) j) λ cs q.
+    value (
+      record { apart = q .1; tidy = q .0 .tidy },
       record {
         metadata = k .kept;
         columns = begins-map (λ f g w. w .grown) (q .0 .grown);
-        longer = omega (arith, k .longer, columns-longer (x .columns) cs (begins-map (λ f g w. w .longer) (q .0 .grown)),
+        longer = omega (
+          arith,
+          k .longer,
+          columns-longer (x .columns) cs (begins-map (λ f g w. w .longer) (q .0 .grown)),
           length-append (part (withCount pairBytes) (x .metadata)) (part (withCount columnBytes) (x .columns)),
-          length-append (part (withCount pairBytes) d) (part (withCount columnBytes) cs)) })
+          length-append (part (withCount pairBytes) d) (part (withCount columnBytes) cs),
+        );
+      },
+    )
 
 pub schema-refl : (x : Schema) → SchemaGrew x x
 schema-refl x = record { metadata = kept-refl _; columns = begins-refl (field-refl (Grows 32) (grows-refl 32)) _; longer = omega arith }
@@ -470,7 +485,8 @@ schema-trans x y z p q =
     record {
       metadata = kept-trans _ _ _ (p .metadata) (q .metadata);
       columns = begins-trans (field-trans (Grows 32) (grows-trans 32)) (p .columns) (q .columns);
-      longer = omega (arith, p .longer, q .longer) }
+      longer = omega (arith, p .longer, q .longer);
+    }
 
 -- what grew as trees grew by its bytes
 pub schema-grown : {x y : Schema} → SchemaGrew x y → GrownSchema x y

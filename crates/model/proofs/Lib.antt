@@ -1,5 +1,6 @@
 -- The laws about the definitions. Those that callers cite are `pub mod`.
 pub mod Trials
+pub mod Lists
 pub mod Gives
 pub mod Steps
 pub mod Layouts
@@ -15,3 +16,9 @@ pub mod Look
 pub mod Projection
 pub mod OrderFlags
 pub mod Normalized
+pub mod Calls
+pub mod Refusals
+pub mod Demand3
+pub mod Demand3Instances
+pub mod LeafCount
+pub mod Flattened

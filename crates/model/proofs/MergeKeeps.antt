@@ -12,10 +12,11 @@ use Rattle.model.specs.Tree.{FieldOver, DataType, Field, Schema, withChi
 use Rattle.model.specs.Read.{unless, _then_, above, isText, codeFits, idFits}
 use Rattle.model.specs.Equal.{sameType}
 use Rattle.model.specs.Merge.{Merged, done, clash, _>>=_, need, pour, mergePair, mergeMetadata, mergeByName, mergeChild, idsDiffer, mergeField, mergeEach, isNull, mergeSameCode, mergeType, mergeSchema, empty}
+use Rattle.model.proofs.Lists.{and-true, or-false, beq-eq, every-append}
 use Rattle.model.proofs.Gives.{Gives, value, refusal, bind-gives, need-gives, choose-gives, gives-map, pour-keeps}
 use Rattle.model.proofs.Steps.{then-zero, unless-zero, unless-got, then-got}
 use Rattle.model.proofs.Layouts.{struct-children, union-children, list-children}
-use Rattle.model.proofs.WellFormed.{Each, WellFormedPair, WellFormedParams, WellFormedField, WellFormedChildren, WellFormedType, WellFormedColumn, WellFormedSchema}
+use Rattle.model.proofs.WellFormed.{Each, every-each, each-every, WellFormedPair, WellFormedParams, WellFormedField, WellFormedChildren, WellFormedType, WellFormedColumn, WellFormedSchema}
 
 -- Metadata
 
@@ -47,24 +48,6 @@ meta-keeps n a b g h =
     pour-keeps (mergePair n) (λ r. Each WellFormedPair [] r) Texts (λ a x i j. merge-pair-well-formed n [] a x i (record { key = j .0; value = j .1; order = refl })) a b g (texts [] b h)
 
 -- Fields
-
-beq-eq : (a b : Bool) → Bool·beq a b ≡ true → a ≡ b
-beq-eq true true h = refl
-beq-eq true false h = sym h
-beq-eq false true h = h
-beq-eq false false h = refl
-
-every-each : {A : Type 0} (W : A → Type 0) (seen xs : List A) → Every W xs → Each (λ s x. W x) seen xs
-every-each W seen [] h = tt
-every-each W seen (x ∷ xs) h = (h .0, every-each W (x ∷ seen) xs (h .1))
-
-each-every : {A : Type 0} (W : List A → A → Type 0) (U : A → Type 0) → ((s : List A) (x : A) → W s x → U x) → (seen xs : List A) → Each W seen xs → Every U xs
-each-every W U f seen [] h = tt
-each-every W U f seen (x ∷ xs) h = (f seen x (h .0), each-every W U f (x ∷ seen) xs (h .1))
-
-every-append : {A : Type 0} (W : A → Type 0) (xs ys : List A) → Every W xs → Every W ys → Every W (xs ++ ys)
-every-append W [] ys h k = k
-every-append W (x ∷ xs) ys h k = (h .0, every-append W xs ys (h .1) k)
 
 -- a field with no union id
 abbrev Plain : {T : Type 0} → (Bool → T → Type 0) → FieldOver T → Type 0
@@ -100,14 +83,6 @@ module _ {T : Type 0} (G : Bool → T → Type 0) (merge : T → T → Merged T)
       value {a = h ∷ hs} (ap suc (q .0), (p, q .1))
 
 -- Union children
-
-or-false : (a b : Bool) → (a || b) ≡ false → (a ≡ false) × (b ≡ false)
-or-false true b h = absurd (false≢true (sym h))
-or-false false b h = (refl, h)
-
-and-true : (a b : Bool) → (a && b) ≡ true → (a ≡ true) × (b ≡ true)
-and-true true b h = (refl, h)
-and-true false b h = absurd (false≢true h)
 
 not-false-got : (b : Bool) → b ≡ false → not b ≡ true
 not-false-got b h = ap not h
@@ -197,5 +172,5 @@ schema-keeps x y g h =
     (each-every (λ seen k. Plain (WellFormedType 32) k) (Plain (WellFormedType 32)) (λ s x w. w) [] (y .columns) (h .columns))) λ cs q.
     value (record { metadata = k; columns = every-each (Plain (WellFormedType 32)) [] cs q })
 
-pub nothing-well-formed : WellFormedSchema empty
-nothing-well-formed = record { metadata = tt; columns = tt }
+pub empty-well-formed : WellFormedSchema empty
+empty-well-formed = record { metadata = tt; columns = tt }

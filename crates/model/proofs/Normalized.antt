@@ -11,6 +11,7 @@ use Rattle.model.specs.Tree.{FieldOver, DataType, Field, Struct, Childre
 use Rattle.model.specs.Sheet.{each, withCount, headBytes, fieldBytes, childrenBytes, typeBytes}
 use Rattle.model.specs.Schema.{lift, plainColumn, join, expand, normalizedColumns}
 use Rattle.model.proofs.Gives.{choose-false}
+use Rattle.model.proofs.Lists.{every-append}
 
 -- A type with a level to spare
 
@@ -48,10 +49,6 @@ map-join : {A B C : Type 0} (g : B → C) (f : A → List B) (h : A → List C) 
 unfolding join
 map-join g f h e [] = refl
 map-join g f h e (x ∷ xs) = map-append g (f x) (join f xs) ∙ ap₂ _++_ (e x) (map-join g f h e xs)
-
-every-append : {A : Type 0} (P : A → Type 0) (xs ys : List A) → Every P xs → Every P ys → Every P (xs ++ ys)
-every-append P [] ys h k = k
-every-append P (x ∷ xs) ys h k = (h .0, every-append P xs ys (h .1) k)
 
 every-join : {A B : Type 0} (P : B → Type 0) (f : A → List B) → ((x : A) → Every P (f x)) → (xs : List A) → Every P (join f xs)
 unfolding join

@@ -14,21 +14,13 @@ use Rattle.model.specs.Read.{got, next}
 use Rattle.model.specs.Equal.{sameType}
 use Rattle.model.specs.Growth.{childBytes}
 use Rattle.model.specs.Merge.{Merged, done, clash, pour, mergePair, mergeMetadata, mergeByName, mergeChild, mergeField, mergeEach, isNull, mergeSameCode, mergeType, mergeSchema, empty, placed, mergeFrom, tryMerge}
+use Rattle.model.proofs.Lists.{length-each-append}
 use Rattle.model.proofs.Layouts.{struct-children, union-children, list-children}
 use Rattle.model.proofs.Gives.{Gives, value, refusal, bind-gives, need-gives, choose-gives, gives-map}
 
 -- Lists
 
 module _ {A : Type 0} (f : A → Bytes) where
-  -- What is written of two lists, one behind the other, is what is written of the first, then of the second.
-  pub each-append : (xs ys : List A) → each f (xs ++ ys) ≡ each f xs ++ each f ys
-  each-append [] ys = refl
-  each-append (x ∷ xs) ys = ap (λ r. f x ++ r) (each-append xs ys) ∙ sym (append-assoc (f x) (each f xs) (each f ys))
-
-  -- So its length is the sum.
-  pub length-each-append : (xs ys : List A) → length (each f (xs ++ ys)) ≡ length (each f xs) + length (each f ys)
-  length-each-append xs ys = ap length (each-append xs ys) ∙ length-append (each f xs) (each f ys)
-
   -- A count takes two bytes, however much it counts.
   pub length-withCount : (xs : List A) → length (withCount f xs) ≡ length (each f xs) + 2
   unfolding withCount u16
@@ -60,7 +52,7 @@ module _ {A : Type 0} (f : A → Bytes) where
 
   -- one list after the other
   within-append : (xs ys : List A) {r : List A} → Within [] (xs ++ ys) r → Within xs ys r
-  within-append xs ys h = record { count = omega (arith, h .count, length-append xs ys); bytes = omega (arith, h .bytes, length-each-append xs ys) }
+  within-append xs ys h = record { count = omega (arith, h .count, length-append xs ys); bytes = omega (arith, h .bytes, length-each-append f xs ys) }
 
   -- Then, with counts before them, two bytes are saved at least: there is one count fewer.
   pub withCount-within : {xs ys r : List A} → Within xs ys r → length (withCount f r) + 2 ≤ length (withCount f xs) + length (withCount f ys)

@@ -17,7 +17,7 @@ use Rattle.model.specs.Program.{decimalOf, decimal, hexDigit, hexByte, h
 use Rattle.model.specs.Examples.{AllHold, nothing, _and_, leavesOf, P1toP12}
 
 -- every definition that a trial computes with
-opened : Unit {0}
+unfoldable pub opened : Unit {0}
 unfolding choose all any join leafCountOfEach num u16 bit same onward position below among getIs rows rowOf utf8From utf8 table layout withCount textBytes pairBytes headBytes fieldBytes childrenBytes typeBytes sheetBytes next judged ifSet unless _then_ readMany readItem readNumber readText readPair readList readMetadata readField readBareType readUnionChild readChildren readZone readParams readType readColumn readSchema readSheet shifted readTwo readSheets readTrain sameField sameChild sameType sameColumns holdsFields encodes ofSecond isNested equalsField equalsChild equalsDatatype containsMetadata containsField containsChild contains containsSchema equalsColumns _>>=_ need pour mergePair mergeMetadata mergeByName mergeChild idsDiffer mergeField mergeEach isNull mergeSameCode mergeType mergeSchema placed mergeFrom tryMerge indices select indexFits selected project lift expand normalizedColumns normalize filterEach filterLeaf filterTo filterField withLeft around lookThrough filterType leavesOfSecond fieldLeafCount typeLeafCount leafCount filterColumns filterLeaves andThen sheetAnswer yesNo mergeAnswer projectAnswer filterAnswer normalizeAnswer containsAnswer zeros refusal acceptance settled call decimalOf decimal hexDigit hexByte hexOrMinus lineOf programLine leavesOf
 opened = tt
 

@@ -6,7 +6,7 @@ use mathlib.Core.List.{List, [], _∷_, _++_, map}
 use mathlib.Core.Bool.{Bool, true, false}
 use lib.ListN.{length, getD}
 use Rattle.model.specs.Numbers.{maxLevels, keyNotAbove}
-use Rattle.model.specs.Bytes.{Bytes, AreBytes, Metadata, num, bit}
+use Rattle.model.specs.Bytes.{Bytes, AreBytes, Metadata, Every, num, bit}
 use Rattle.model.specs.Text.{utf8, utf8From}
 use Rattle.model.specs.Tree.{FieldOver, DataType, Field, Schema, blank, Params, items, timestamp, Children, fields, keyAndValue, counted, countedWithIds, layout, unit}
 use Rattle.model.specs.Read.{Step, got, bad, Reader, next, judged, pure, ifSet, unless, _then_, atMost, isText, mapFits, codeFits, idFits, paramFits, above, readMany, readItem, readNumber, readText, readPair, readList, readMetadata, readField, readBareType, readUnionChild, readChildren, readZone, readParams, readType, readColumn, readSchema}
@@ -17,6 +17,14 @@ use Rattle.model.proofs.Exact.{item-holds}
 abbrev pub Each : {A : Type 0} → (List A → A → Type 0) → List A → List A → Type 0
 Each W seen [] = Unit {0}
 Each W seen (x ∷ xs) = W seen x × Each W (x ∷ seen) xs
+
+pub every-each : {A : Type 0} (W : A → Type 0) (seen xs : List A) → Every W xs → Each (λ s x. W x) seen xs
+every-each W seen [] h = tt
+every-each W seen (x ∷ xs) h = (h .0, every-each W (x ∷ seen) xs (h .1))
+
+pub each-every : {A : Type 0} (W : List A → A → Type 0) (U : A → Type 0) → ((s : List A) (x : A) → W s x → U x) → (seen xs : List A) → Each W seen xs → Every U xs
+each-every W U f seen [] h = tt
+each-every W U f seen (x ∷ xs) h = (f seen x (h .0), each-every W U f (x ∷ seen) xs (h .1))
 
 pub record WellFormedPair (seen : Metadata) (p : Bytes × Bytes) : Type 0 where
   pub key : isText (p .0) ≡ 0

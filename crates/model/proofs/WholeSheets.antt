@@ -32,9 +32,10 @@ unfolding readSheet
 sheet-exact s byte =
     next-holds (both-hold (schema-holds s maxSheetBytes byte 0) (schema-well-formed s maxSheetBytes byte 0)) λ x e h.
     judged-holds _ e x e λ z.
-    let w : length s ≤ e = leb→le _ _ (unless-zero _ _ z) in
-    (h .0 .bytes ∙ ap (λ r. sheetBytes x ++ r) (drop-of-length-le s w) ∙ append-nil _,
-      record { wellFormed = h .1; size = omega (arith, h .0 .ends, h .0 .below (omega arith)) })
+    let w : length s ≤ e = leb→le _ _ (unless-zero _ _ z) in (
+      h .0 .bytes ∙ ap (λ r. sheetBytes x ++ r) (drop-of-length-le s w) ∙ append-nil _,
+      record { wellFormed = h .1; size = omega (arith, h .0 .ends, h .0 .below (omega arith)) },
+    )
 
 -- the sheet of a schema reads back as that schema
 pub sheet-reads : (x : Schema) → Fits x → readSheet (sheetBytes x) ≡ got x (length (sheetBytes x))
@@ -71,13 +72,13 @@ something-left s place x xs h =
 
 -- the first of them reads, and the others stand behind it
 first-reads : (s : Bytes) (place : ℕ) (x : Schema) (xs : List Schema) → Fits x → StandFrom s place (x ∷ xs)
-  → (readSchema s (place + maxSheetBytes) place ≡ got x (place + length (sheetBytes x))) × StandFrom s (place + length (sheetBytes x)) xs
+    → (readSchema s (place + maxSheetBytes) place ≡ got x (place + length (sheetBytes x))) × StandFrom s (place + length (sheetBytes x)) xs
 first-reads s place x xs f h =
     let m = place + length (sheetBytes x) in
     let rest : drop m s ≡ each sheetBytes xs = sym (drop-drop (length (sheetBytes x)) place s) ∙ ap (drop (length (sheetBytes x))) (h .bytes) ∙ drop-at (sheetBytes x) _ _ refl in
     let w : m ≤ length s = omega (arith, h .inside, length-drop place s, ap length (h .bytes), length-append (sheetBytes x) (each sheetBytes xs)) in
     let lies : Lies s (place + maxSheetBytes) place m (sheetBytes x) =
-        record { ends = refl; bytes = h .bytes ∙ ap (λ r. sheetBytes x ++ r) (sym rest); inside = w; below = omega (arith, f .size) } in
+    record { ends = refl; bytes = h .bytes ∙ ap (λ r. sheetBytes x ++ r) (sym rest); inside = w; below = omega (arith, f .size) } in
     (schema-reads s (place + maxSheetBytes) x place m (f .wellFormed) lies, record { inside = w; bytes = rest })
 
 sheets-read : (s : Bytes) (n place : ℕ) (xs : List Schema) → Every Fits xs → length xs ≤ n → StandFrom s place xs → readSheets s n place ≡ got xs (length s)
@@ -116,9 +117,11 @@ sheets-exact s byte (suc n) place w =
     choose-holds _ _ _ (λ b. value {a = []} (drop-of-length-le s (leb-true _ _ b), tt, omega arith)) λ b.
     next-holds (both-hold (schema-holds s (place + maxSheetBytes) byte place) (schema-well-formed s (place + maxSheetBytes) byte place)) λ x e h.
     next-holds (sheets-exact s byte n e (h .0 .inside w)) λ xs e′ k.
-    value {a = x ∷ xs} (h .0 .bytes ∙ ap (λ r. sheetBytes x ++ r) (k .0),
+    value {a = x ∷ xs} (
+      h .0 .bytes ∙ ap (λ r. sheetBytes x ++ r) (k .0),
       (record { wellFormed = h .1; size = omega (arith, h .0 .ends, h .0 .below (omega arith)) }, k .1),
-      omega (arith, k .2))
+      omega (arith, k .2),
+    )
 
 -- an accepted train is exactly the sheets of the schemas read, end to end, at most 256
 pub train-exact : (s : Bytes) → AreBytes s → Holds (λ xs e. (s ≡ each sheetBytes xs) × Every Fits xs × (length xs ≤ maxSheets)) (readTrain s)

@@ -51,7 +51,7 @@ pub data GrownOver {T A C : Type 0} (type : DataTypeOver (FieldOver T) → A) (c
   largeList : a .code ≡ LargeList → b .code ≡ LargeList → Pairwise (GrownField G) (a .children) (b .children) → GrownOver type child G nullable a b
   -- "if Union keeps its mode and begins with the same children and ids"
   union : a .code ≡ Union → b .code ≡ Union → a .params ≡ b .params → Begins (λ x y. child x ≡ child y) (a .children) (b .children)
-    → GrownOver type child G nullable a b
+      → GrownOver type child G nullable a b
 
 -- The type is identical or grew, under a field that is now nullable or not. "Types and union children count as the same, or identical,
 -- when their bytes are equal."
@@ -78,12 +78,16 @@ abbrev pub NoNameTwice : (l : ℕ) → DataType l → Type 0
 NoNameTwice zero t = ⊥
 NoNameTwice (suc l) t = (t .code ≡ Struct → Distinct (names (t .children))) × Every (λ f. NoNameTwice l (f .dataType)) (t .children)
 
--- "each sheet is whole and reads without refusal"; "a sheet's own columns may repeat a name"
+-- "each sheet is whole and reads without refusal"
 pub record WholeSheet (s : Bytes) : Type 0 where
   pub bytes : AreBytes s
   pub schema : Schema
   pub reads : readSheet s ≡ got schema (length s)
-  pub noNameTwice : Every (λ f. NoNameTwice maxLevels (f .dataType)) (schema .columns)
+
+-- "with no struct in any of them holding a name twice"; "a sheet's own columns may repeat a name"
+pub record SheetOfDemand3 (s : Bytes) : Type 0 where
+  pub whole : WholeSheet s
+  pub noNameTwice : Every (λ f. NoNameTwice maxLevels (f .dataType)) (whole .schema .columns)
 
 -- "sheets end to end"
 abbrev pub endToEnd : List Bytes → Bytes
@@ -96,14 +100,18 @@ Accepts e = e .number ≡ accepted
 abbrev pub WroteSheet : Exit → Schema → Type 0
 WroteSheet e x = readSheet (take (e .length) (e .answer)) ≡ got x (e .length)
 
--- Demand 3: "For every list of sheets, empty too, and whatever sheets follow it, with no struct in any of them holding a name twice: take
--- two merges with equal buffers, the first given the list, the second the list and then those that follow. If the second is accepted, so
--- is the first, and" its schema is grown into the second's. "Equal buffers are equal in length, answer with answer and work with work."
-abbrev pub Demand3 : Type 0
-Demand3 =
-    (list following : List Bytes) → Every WholeSheet list → Every WholeSheet following →
+-- "take two merges with equal buffers, the first given the list, the second the list and then those that follow. If the second is accepted,
+-- so is the first, and" its schema is grown into the second's: said of lists of whichever sheets. "Equal buffers are equal in length, answer
+-- with answer and work with work."
+abbrev pub MergeOnlyGrows : (Bytes → Type 0) → Type 0
+MergeOnlyGrows Sheet =
+    (list following : List Bytes) → Every Sheet list → Every Sheet following →
     (work work′ answer answer′ : Bytes) → length work ≡ length work′ → length answer ≡ length answer′ →
     let first = mergeCall (endToEnd list) work answer in
     let second = mergeCall (endToEnd (list ++ following)) work′ answer′ in
     Accepts second →
     Accepts first × (old : Schema) × (new : Schema) × WroteSheet first old × WroteSheet second new × GrownSchema old new
+
+-- Demand 3: "For every list of sheets, empty too, and whatever sheets follow it, with no struct in any of them holding a name twice"
+abbrev pub Demand3 : Type 0
+Demand3 = MergeOnlyGrows SheetOfDemand3

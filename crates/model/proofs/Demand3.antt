@@ -1,0 +1,240 @@
+-- Demand 3: what is merged first only grows, and is accepted where all is.
+use Prim.Native.Nat.{ℕ, zero, suc, _+_, _*_, _≤_, _<_}
+use native.Mathlib.Omega.{arith}
+use mathlib.Core.Path.{_≡_, refl, sym, ap, subst, _∙_}
+use mathlib.Core.Logic.{_⊎_, inl, inr}
+use mathlib.Core.List.{List, [], _∷_, _++_, append-assoc, map}
+use mathlib.Core.Bool.{Bool, true, false}
+use lib.ListN.{length, take, drop, length-append}
+use lib.Seq.{take-at}
+use lib.Dec.{leb}
+use borrow.Author.Tests.{leb-true, leb-false}
+use Rattle.model.specs.Numbers.{maxLevels, maxSheetBytes, maxSheets, workBytesPerSheetByte}
+use Rattle.model.specs.Bytes.{Bytes, AreBytes, Every, sameBytes}
+use Rattle.model.specs.Tree.{FieldOver, DataType, Field, Schema, blank, Null, Children, fields, keyAndValue, counted, countedWithIds, layout, table}
+use Rattle.model.specs.Sheet.{each, childrenBytes, typeBytes, sheetBytes}
+use Rattle.model.specs.Read.{Step, got, bad, next, idFits, readSheet, readTrain}
+use Rattle.model.specs.Merge.{Merged, done, clash, mergeSchema, empty, placed, mergeFrom, tryMerge}
+use Rattle.model.specs.Call.{Answer, bytes, refused, andThen, sheetAnswer, mergeAnswer, Exit, zeros, call, mergeCall}
+use Rattle.model.specs.Growth.{Distinct, names, NoNameTwice, SheetOfDemand3, endToEnd, Accepts, WroteSheet, GrownSchema, Demand3}
+use Rattle.model.proofs.Lists.{every-append, every-both, each-append}
+use Rattle.model.proofs.ByteStrings.{differ-same-bytes}
+use Rattle.model.proofs.Gives as gives
+use Rattle.model.proofs.Gives.{Gives}
+use Rattle.model.proofs.Steps.{Holds, value, refusal, of-got, next-holds, holds-map, next-got}
+use Rattle.model.proofs.WellFormed.{Each, each-every, WellFormedParams, WellFormedField, WellFormedChildren, WellFormedType, WellFormedColumn, WellFormedSchema}
+use Rattle.model.proofs.MergeKeeps.{schema-keeps, empty-well-formed}
+use Rattle.model.proofs.WholeSheets.{Fits, sheet-exact, sheet-reads, train-reads, train-refuses}
+use Rattle.model.proofs.Grows.{Apart, Tidy, Standing, SchemaGrew, schema-grows, schema-refl, schema-trans, schema-grown}
+use Rattle.model.proofs.Calls.{Accepted, accepted-call, call-accepted, Numbered}
+use Rattle.model.proofs.Refusals.{merge-numbered}
+
+-- What reads without refusal and has no struct with a name twice is tidy
+
+distinct-apart : (ns : List Bytes) → Distinct ns → Apart ns
+distinct-apart [] d = tt
+distinct-apart (n ∷ ns) d = (go n ns (d .0), distinct-apart ns (d .1))
+  where
+    go : (n : Bytes) (ms : List Bytes) → Every (λ m. n ≡ m → ⊥) ms → Every (λ m. sameBytes n m ≡ false) ms
+    go n [] h = tt
+    go n (m ∷ ms) h = (differ-same-bytes n m (h .0), go n ms (h .1))
+
+null-alone : (l : ℕ) (o : Bool) (t : DataType (suc l)) → WellFormedType (suc l) o t → t .code ≡ Null → length (typeBytes (suc l) t) ≡ 1
+unfolding typeBytes childrenBytes layout table
+null-alone l o t w e =
+    subst (λ c. length (c ∷ (t .params ++ childrenBytes (typeBytes l) (layout c .children) (t .children))) ≡ 1) (sym e)
+    (go (t .params) (t .children) (subst (λ c. WellFormedParams (layout c .params) (t .params)) e (w .1))
+    (subst (λ c. WellFormedChildren (WellFormedType l) (layout c .children) (t .children)) e (w .2) .0))
+  where
+    go : (ps : Bytes) (ks : List (Field l)) → ps ≡ [] → length ks ≡ 0 → length (Null ∷ (ps ++ childrenBytes (typeBytes l) (fields 0) ks)) ≡ 1
+    go [] [] p q = refl
+    go [] (k ∷ ks) p q = absurd (omega (arith, q))
+    go (x ∷ ps) ks p q = absurd (omega (arith, ap length p))
+
+-- the types that a well-formed type holds are well-formed
+abbrev Held : {T : Type 0} → (Bool → T → Type 0) → FieldOver T → Type 0
+Held G f = (o : Bool) × G o (f .dataType)
+
+children-well-formed : {T : Type 0} (G : Bool → T → Type 0) (k : Children) (ks : List (FieldOver T)) → WellFormedChildren G k ks → Every (Held G) ks
+children-well-formed G (fields n) ks h = each-every _ (Held G) (λ s x w. (_, w .0 .dataType)) [] ks (h .1)
+children-well-formed G keyAndValue ks h = each-every _ (Held G) (λ s x w. (false, w .1)) [] ks (h .1)
+children-well-formed G counted ks h = each-every _ (Held G) (λ s x w. (_, w .0 .dataType)) [] ks h
+children-well-formed G countedWithIds ks h = each-every _ (Held G) (λ s x w. (_, w .0 .dataType)) [] ks h
+
+tidy-type : (l : ℕ) (o : Bool) (t : DataType l) → NoNameTwice l t → WellFormedType l o t → Tidy l t
+tidy-type zero o t n w = absurd n
+tidy-type (suc l) o t n w = (
+  λ e. distinct-apart (names (t .children)) (n .0 e),
+  null-alone l o t w,
+  every-both (λ f. NoNameTwice l (f .dataType)) (Held (WellFormedType l)) (λ f. Tidy l (f .dataType)) (λ f p q. tidy-type l (q .0) (f .dataType) p (q .1)) (t .children)
+      (n .1) (children-well-formed (WellFormedType l) (layout (t .code) .children) (t .children) (w .2)),
+)
+
+pub TidySchema : Schema → Type 0
+TidySchema x = Every (λ f. Tidy maxLevels (f .dataType)) (x .columns)
+
+tidy-schema : (x : Schema) → WellFormedSchema x → Every (λ f. NoNameTwice maxLevels (f .dataType)) (x .columns) → TidySchema x
+unfolding TidySchema
+tidy-schema x w n =
+    every-both (λ f. NoNameTwice maxLevels (f .dataType)) (Held (WellFormedType maxLevels)) (λ f. Tidy maxLevels (f .dataType))
+    (λ f p q. tidy-type maxLevels (q .0) (f .dataType) p (q .1)) (x .columns) n
+    (each-every (λ seen k. WellFormedColumn k) (Held (WellFormedType maxLevels)) (λ s f w. (f .head .dictIsOrdered, w .0 .dataType)) [] (x .columns) (w .columns))
+
+-- Whole sheets, and the schemas that they hold
+
+record Sheets (ss : List Bytes) (xs : List Schema) : Type 0 where
+  written : endToEnd ss ≡ each sheetBytes xs
+  fits : Every Fits xs
+  tidy : Every TidySchema xs
+
+sheets-of : (ss : List Bytes) → Every SheetOfDemand3 ss → (xs : List Schema) × Sheets ss xs
+sheets-of [] w = ([], record { written = refl; fits = tt; tidy = tt })
+sheets-of (s ∷ ss) w =
+    let (xs, h) = sheets-of ss (w .1) in
+    let x = w .0 .whole .schema in
+    let (p, f) = of-got (subst (Holds (λ x e. (s ≡ sheetBytes x) × Fits x)) (w .0 .whole .reads) (sheet-exact s (w .0 .whole .bytes))) in (
+      x ∷ xs,
+      record {
+        written = ap (λ r. r ++ endToEnd ss) p ∙ ap (λ r. sheetBytes x ++ r) (h .written);
+        fits = (f, h .fits);
+        tidy = (tidy-schema x (f .wellFormed) (w .0 .noNameTwice), h .tidy);
+      },
+    )
+
+sheets-append : {ss ts : List Bytes} {xs ys : List Schema} → Sheets ss xs → Sheets ts ys → Sheets (ss ++ ts) (xs ++ ys)
+sheets-append {ss} {ts} {xs} {ys} p q =
+    record {
+      written = each-append (λ s. s) ss ts ∙ ap (λ r. r ++ endToEnd ts) (p .written) ∙ ap (λ r. each sheetBytes xs ++ r) (q .written) ∙ sym (each-append sheetBytes xs ys);
+      fits = every-append Fits xs ys (p .fits) (q .fits);
+      tidy = every-append TidySchema xs ys (p .tidy) (q .tidy);
+    }
+
+-- Merging one schema after the other
+
+merge-append : (i : ℕ) (x : Schema) (ys zs : List Schema) → mergeFrom i x (ys ++ zs) ≡ next (mergeFrom i x ys) (λ z j. mergeFrom j z zs)
+unfolding mergeFrom next
+merge-append i x [] zs = refl
+merge-append i x (y ∷ ys) zs = go (placed i (mergeSchema x y)) (λ z j. merge-append j z ys zs)
+  where
+    go : (r : Step Schema) → ((z : Schema) (j : ℕ) → mergeFrom j z (ys ++ zs) ≡ next (mergeFrom j z ys) (λ z j. mergeFrom j z zs))
+        → next r (λ z j. mergeFrom j z (ys ++ zs)) ≡ next (next r (λ z j. mergeFrom j z ys)) (λ z j. mergeFrom j z zs)
+    go (got z j) h = h z j
+    go (bad n p) h = refl
+
+-- a step that goes on to a value gave one itself
+next-inv : {A B : Type 0} (r : Step A) (f : A → ℕ → Step B) {b : B} {e : ℕ} → next r f ≡ got b e → (a : A) × (m : ℕ) × (r ≡ got a m) × (f a m ≡ got b e)
+unfolding next
+next-inv (got a m) f h = (a, m, refl, h)
+next-inv (bad n p) f h = let z : _≡_ {A = ℕ} 0 1 = cc in absurd (omega arith)
+
+placed-holds : {A : Type 0} {P : A → Type 0} (i : ℕ) {r : Merged A} → Gives P r → Holds (λ a e. P a) (placed i r)
+unfolding placed
+placed-holds i (gives.value h) = value h
+placed-holds i gives.refusal = refusal
+
+merge-grows : (i : ℕ) (x : Schema) (ys : List Schema) → Standing x → Every TidySchema ys → Holds (λ z e. Standing z × SchemaGrew x z) (mergeFrom i x ys)
+unfolding mergeFrom TidySchema
+merge-grows i x [] g n = value (g, schema-refl x)
+merge-grows i x (y ∷ ys) g n =
+    next-holds (placed-holds i (schema-grows x y g (n .0))) λ z j h.
+    holds-map (merge-grows j z ys (h .0) (n .1)) λ w e k.
+    (k .0, schema-trans x z w (h .1) (k .1))
+
+merge-well-formed : (i : ℕ) (x : Schema) (ys : List Schema) → WellFormedSchema x → Every Fits ys → Holds (λ z e. WellFormedSchema z) (mergeFrom i x ys)
+unfolding mergeFrom
+merge-well-formed i x [] g f = value g
+merge-well-formed i x (y ∷ ys) g f = next-holds (placed-holds i (schema-keeps x y g (f .0 .wellFormed))) λ z j h. merge-well-formed j z ys h (f .1)
+
+-- The call on whole sheets: accepted exactly where their schemas merge, with room
+
+then-inv : {A : Type 0} (r : Step A) (f : A → Answer) {b : Bytes} → andThen r f ≡ bytes b → (a : A) × (e : ℕ) × (r ≡ got a e) × (f a ≡ bytes b)
+unfolding andThen
+then-inv (got a e) f h = (a, e, refl, h)
+then-inv (bad n p) f h = let z : _≡_ {A = ℕ} 0 1 = cc in absurd (omega arith)
+
+then-got : {A : Type 0} {r : Step A} (f : A → Answer) {a : A} {e : ℕ} {b : Answer} → r ≡ got a e → f a ≡ b → andThen r f ≡ b
+unfolding andThen
+then-got f p q = ap (λ r. andThen r f) p ∙ q
+
+bytes-inv : {a b : Bytes} → bytes a ≡ bytes b → a ≡ b
+bytes-inv h = cc
+
+got-inv : {A : Type 0} {a b : A} {e f : ℕ} → got a e ≡ got b f → a ≡ b
+got-inv h = cc
+
+-- an accepted merge of whole sheets had at most 256 of them, and their schemas merge
+record MergedTo (xs : List Schema) (b : Bytes) (z : Schema) : Type 0 where
+  count : length xs ≤ maxSheets
+  place : ℕ
+  merges : tryMerge xs ≡ got z place
+  written : b ≡ sheetBytes z
+
+train-count : (xs ys : List Schema) (e : ℕ) → Every Fits xs → readTrain (each sheetBytes xs) ≡ got ys e → length xs ≤ maxSheets
+train-count xs ys e f h = go (leb (length xs) maxSheets) refl
+  where
+    go : (t : Bool) → leb (length xs) maxSheets ≡ t → length xs ≤ maxSheets
+    go true p = leb-true _ _ p
+    go false p =
+        let (q, r) = train-refuses xs f (leb-false (length xs) maxSheets p) in
+        let w : got ys e ≡ bad 33 q = sym h ∙ r in
+        let z : _≡_ {A = ℕ} 0 1 = cc in absurd (omega arith)
+
+merge-inv : (xs : List Schema) (b : Bytes) → Every Fits xs → mergeAnswer (each sheetBytes xs) ≡ bytes b → (z : Schema) × MergedTo xs b z
+unfolding mergeAnswer sheetAnswer
+merge-inv xs b f h =
+    let (ys, e, p, q) = then-inv _ _ h in
+    let (z, i, r, w) = then-inv _ _ q in
+    let n = train-count xs ys e f p in
+    let same : ys ≡ xs = got-inv (sym p ∙ train-reads xs f n) in
+    (z, record { count = n; place = i; merges = ap tryMerge (sym same) ∙ r; written = sym (bytes-inv w) })
+
+merge-of : (xs : List Schema) (b : Bytes) (z : Schema) → Every Fits xs → MergedTo xs b z → mergeAnswer (each sheetBytes xs) ≡ bytes b
+unfolding mergeAnswer sheetAnswer
+merge-of xs b z f m = then-got _ (train-reads xs f (m .count)) (then-got _ (m .merges) (ap bytes (sym (m .written))))
+
+-- an accepted merge wrote a sheet that reads as the merged schema
+wrote : (xs : List Schema) (b : Bytes) (z : Schema) {given : ℕ} {outcome : Answer} {work answer : Bytes} → Every Fits xs → MergedTo xs b z → Accepted given outcome work answer b
+    → WroteSheet (call given outcome work answer) z
+unfolding tryMerge
+wrote xs b z {given} {outcome} {work} {answer} f m a =
+    let good : WellFormedSchema z = of-got (subst (Holds (λ z e. WellFormedSchema z)) (m .merges) (merge-well-formed 0 empty xs empty-well-formed f)) in
+    let fits : Fits z = record { wellFormed = good; size = subst (λ b. length b ≤ maxSheetBytes) (m .written) (a .size) } in
+    subst (λ e. WroteSheet e z) (sym (accepted-call a))
+    (ap readSheet (take-at b (drop (length b) answer) (length b) refl) ∙ subst (λ b. readSheet b ≡ got z (length b)) (sym (m .written)) (sheet-reads z fits))
+
+-- the schema merged from a list is grown into the one merged from the list and those that follow, and its sheet is no longer
+pub merge-grows-on : (xs ys : List Schema) (new : Schema) (e : ℕ) → Every TidySchema xs → Every TidySchema ys → tryMerge (xs ++ ys) ≡ got new e
+    → (old : Schema) × (i : ℕ) × (tryMerge xs ≡ got old i) × SchemaGrew old new
+unfolding tryMerge
+merge-grows-on xs ys new e t u h =
+    let (old, i, r, s) = next-inv _ _ (sym (merge-append 0 empty xs ys) ∙ h) in
+    let start : Standing empty = record { apart = tt; tidy = tt } in
+    let stands : Standing old = of-got (subst (Holds (λ z e. Standing z × SchemaGrew empty z)) r (merge-grows 0 empty xs start t)) .0 in
+    (old, i, r, of-got (subst (Holds (λ z e. Standing z × SchemaGrew old z)) s (merge-grows i old ys stands u)) .1)
+
+-- the first call, where the second was accepted: it needs no more work room, and its answer is no longer
+first-accepted : (list all : Bytes) (xs : List Schema) (old : Schema) (work work′ answer answer′ b : Bytes) → list ≡ each sheetBytes xs → Every Fits xs
+    → MergedTo xs (sheetBytes old) old → length list ≤ length all → length (sheetBytes old) ≤ length b → length work ≡ length work′ → length answer ≡ length answer′
+    → Accepted (length all) (mergeAnswer all) work′ answer′ b → Accepted (length list) (mergeAnswer list) work answer (sheetBytes old)
+first-accepted list all xs old work work′ answer answer′ b p f m shorter size sameWork sameAnswer a =
+    record {
+      answers = ap mergeAnswer p ∙ merge-of xs (sheetBytes old) old f m;
+      workRoom = omega (arith, a .workRoom, shorter, sameWork);
+      size = omega (arith, size, a .size);
+      answerRoom = omega (arith, size, a .answerRoom, sameAnswer);
+    }
+
+pub demand3 : Demand3
+demand3 list following w w′ work work′ answer answer′ sameWork sameAnswer h =
+    let (xs, p) = sheets-of list w in
+    let (ys, q) = sheets-of following w′ in
+    let pq = sheets-append p q in
+    let all = endToEnd (list ++ following) in
+    let (b, a) = call-accepted (length all) (mergeAnswer all) work′ answer′ (merge-numbered all) h in
+    let (new, m) = merge-inv (xs ++ ys) b (pq .fits) (ap mergeAnswer (sym (pq .written)) ∙ a .answers) in
+    let (old, i, r, grew) = merge-grows-on xs ys new (m .place) (p .tidy) (q .tidy) (m .merges) in
+    let m₁ : MergedTo xs (sheetBytes old) old = record { count = omega (arith, m .count, length-append xs ys); place = i; merges = r; written = refl } in
+    let a₁ = first-accepted (endToEnd list) all xs old work work′ answer answer′ b (p .written) (p .fits) m₁
+    (omega (arith, ap length (each-append (λ s. s) list following), length-append (endToEnd list) (endToEnd following)))
+    (omega (arith, ap length (m .written), grew .longer)) sameWork sameAnswer a in
+    (ap (λ e. e .number) (accepted-call a₁), old, new, wrote xs (sheetBytes old) old (p .fits) m₁ a₁, wrote (xs ++ ys) b new (pq .fits) m a, schema-grown grew)

@@ -1,0 +1,398 @@
+-- Which numbers each operation can refuse with: those of document 01's table that are its own, and no other. So "0 means accepted".
+use Prim.Native.Nat.{ℕ, zero, suc, _+_}
+use mathlib.Core.Path.{_≡_, refl, sym, ap, subst, _∙_}
+use mathlib.Core.List.{List, [], _∷_, _++_, map}
+use mathlib.Core.Bool.{Bool, true, false, _||_, false≢true}
+use lib.ListN.{length}
+use lib.Dec.{eqb}
+use borrow.Author.Tests.{eqb-true}
+use Rattle.model.specs.Numbers.{maxLevels, maxSheetBytes, maxSheets, accepted, endsInside, sheetTooLong, tooDeep, malformed, notUtf8, keyNotAbove, idTooLarge, idRepeated, bytesLeft, tooManySheets}
+use Rattle.model.specs.Numbers.{schemaMetadataClash, orderedClash, fieldMetadataClash, typeClash, equalChildClash, typeIdClash}
+use Rattle.model.specs.Bytes.{Bytes, Metadata, choose, all, num, bit, among}
+use Rattle.model.specs.Tree.{DataTypeOver, FieldOver, DataType, Field, Schema, Params, items, timestamp, Children, fields, keyAndValue, counted, countedWithIds, layout}
+use Rattle.model.specs.Read.{Step, got, bad, Reader, next, judged, pure, ifSet, unless, _then_, atMost, atLeast, anything, isText, mapFits, codeFits, idFits, paramFits, readMany, readItem, readNumber, readText, readPair, readList, readMetadata, readField, readBareType, readUnionChild, readChildren, readZone, readParams, readType, readColumn, readSchema, readSheet, shifted, readTwo, readSheets, readTrain}
+use Rattle.model.specs.Merge.{Merged, done, clash, _>>=_, need, pour, mergePair, mergeMetadata, mergeByName, mergeChild, idsDiffer, mergeField, mergeEach, mergeSameCode, mergeType, mergeSchema, placed, mergeFrom, tryMerge}
+use Rattle.model.specs.Call.{Answer, bytes, refused, andThen, sheetAnswer, yesNo, mergeAnswer}
+use Rattle.model.proofs.Lists.{and-true}
+use Rattle.model.proofs.Calls.{Numbered, answered, refusing}
+
+-- The number of a refusal, if there is one, has P: of a verdict, a step, a merge and an answer
+
+pub data Verdict (P : ℕ → Type 0) : ℕ → Type 0 where
+  passes : Verdict P 0
+  refuses : {n : ℕ} → P n → Verdict P n
+
+pub data Refuses {A : Type 0} (P : ℕ → Type 0) : Step A → Type 0 where
+  gives : {a : A} {e : ℕ} → Refuses P (got a e)
+  stops : {n p : ℕ} → P n → Refuses P (bad n p)
+
+pub data Clashes {A : Type 0} (P : ℕ → Type 0) : Merged A → Type 0 where
+  merges : {a : A} → Clashes P (done a)
+  clashes : {n : ℕ} → P n → Clashes P (clash n)
+
+-- the number is one of these
+abbrev pub Among : List ℕ → ℕ → Type 0
+Among numbers n = among n numbers ≡ true
+
+-- an answer that refuses with none but these numbers
+pub data AnswersBy (numbers : List ℕ) : Answer → Type 0 where
+  answers : {b : Bytes} → AnswersBy numbers (bytes b)
+  refusesBy : {n p : ℕ} → Among numbers n → AnswersBy numbers (refused n p)
+
+-- an answer that has no 0 among its numbers never refuses with 0
+pub answers-numbered : (numbers : List ℕ) → among accepted numbers ≡ false → {a : Answer} → AnswersBy numbers a → Numbered a
+answers-numbered numbers h answers = answered
+answers-numbered numbers h (refusesBy k) = refusing λ e. false≢true (sym h ∙ ap (λ n. among n numbers) (sym e) ∙ k)
+
+-- More numbers than before
+
+-- a number of the smaller list is one of the larger
+pub among-more : (fewer more : List ℕ) → all (λ n. among n more) fewer ≡ true → (n : ℕ) → Among fewer n → Among more n
+unfolding among all
+among-more [] more h n k = absurd (false≢true k)
+among-more (x ∷ fewer) more h n k =
+    let (p, q) = and-true (among x more) (all (λ n. among n more) fewer) h in
+    go (eqb n x) refl k p λ k. among-more fewer more q n k
+  where
+    go : (t : Bool) → eqb n x ≡ t → (t || among n fewer) ≡ true → Among more x → (Among fewer n → Among more n) → Among more n
+    go true e k p r = subst (λ y. Among more y) (sym (eqb-true n x e)) p
+    go false e k p r = r k
+
+module _ {P Q : ℕ → Type 0} (wider : (n : ℕ) → P n → Q n) where
+  pub verdict-map : {n : ℕ} → Verdict P n → Verdict Q n
+  verdict-map passes = passes
+  verdict-map (refuses h) = refuses (wider _ h)
+
+  pub refuses-map : {A : Type 0} {r : Step A} → Refuses P r → Refuses Q r
+  refuses-map gives = gives
+  refuses-map (stops h) = stops (wider _ h)
+
+  pub clashes-map : {A : Type 0} {r : Merged A} → Clashes P r → Clashes Q r
+  clashes-map merges = merges
+  clashes-map (clashes h) = clashes (wider _ h)
+
+-- A law for each combinator
+
+module _ {P : ℕ → Type 0} where
+  pub unless-verdict : (b : Bool) (n : ℕ) → P n → Verdict P (unless b n)
+  unfolding unless
+  unless-verdict true n h = passes
+  unless-verdict false n h = refuses h
+
+  pub then-verdict : {m n : ℕ} → Verdict P m → Verdict P n → Verdict P (m then n)
+  unfolding _then_
+  then-verdict passes k = k
+  then-verdict (refuses {n = zero} h) k = k
+  then-verdict (refuses {n = suc n} h) k = refuses h
+
+  pub judged-refuses : {A : Type 0} {n : ℕ} (place : ℕ) (a : A) (e : ℕ) → Verdict P n → Refuses P (judged n place a e)
+  unfolding judged
+  judged-refuses place a e passes = gives
+  judged-refuses place a e (refuses {n = zero} h) = gives
+  judged-refuses place a e (refuses {n = suc n} h) = stops h
+
+  pub next-refuses : {A B : Type 0} {r : Step A} {f : A → ℕ → Step B} → Refuses P r → ((a : A) (e : ℕ) → Refuses P (f a e)) → Refuses P (next r f)
+  unfolding next
+  next-refuses (gives {a} {e}) k = k a e
+  next-refuses (stops h) k = stops h
+
+  pub set-refuses : {A : Type 0} (b : Bool) (r : Reader A) (a : A) (place : ℕ) → Refuses P (r place) → Refuses P (ifSet b r a place)
+  unfolding ifSet
+  set-refuses true r a place h = h
+  set-refuses false r a place h = gives
+
+  pub choose-refuses : {A : Type 0} (b : Bool) (x y : Unit {0} → Step A) → Refuses P (x tt) → Refuses P (y tt) → Refuses P (choose b x y)
+  unfolding choose
+  choose-refuses true x y h k = h
+  choose-refuses false x y h k = k
+
+  pub many-refuses : {A : Type 0} (one : List A → Reader A) → ((seen : List A) (place : ℕ) → Refuses P (one seen place))
+      → (n : ℕ) (seen : List A) (place : ℕ) → Refuses P (readMany n one seen place)
+  unfolding readMany
+  many-refuses one h zero seen place = gives
+  many-refuses one h (suc n) seen place = next-refuses (h seen place) λ a m. next-refuses (many-refuses one h n (a ∷ seen) m) λ rest e. gives
+
+  pub shifted-refuses : {A : Type 0} {r : Step A} (n : ℕ) → Refuses P r → Refuses P (shifted n r)
+  unfolding shifted
+  shifted-refuses n gives = gives
+  shifted-refuses n (stops h) = stops h
+
+  pub placed-refuses : {A : Type 0} {r : Merged A} (i : ℕ) → Clashes P r → Refuses P (placed i r)
+  unfolding placed
+  placed-refuses i merges = gives
+  placed-refuses i (clashes h) = stops h
+
+  pub bind-clashes : {A B : Type 0} {r : Merged A} {f : A → Merged B} → Clashes P r → ((a : A) → Clashes P (f a)) → Clashes P (r >>= f)
+  unfolding _>>=_
+  bind-clashes (merges {a}) k = k a
+  bind-clashes (clashes h) k = clashes h
+
+  pub need-clashes : {A : Type 0} (b : Bool) (n : ℕ) (a : A) → P n → Clashes P (need b n a)
+  unfolding need
+  need-clashes true n a h = merges
+  need-clashes false n a h = clashes h
+
+  pub choose-clashes : {A : Type 0} (b : Bool) (x y : Unit {0} → Merged A) → Clashes P (x tt) → Clashes P (y tt) → Clashes P (choose b x y)
+  unfolding choose
+  choose-clashes true x y h k = h
+  choose-clashes false x y h k = k
+
+  pub pour-clashes : {A B : Type 0} (put : A → B → Merged A) → ((a : A) (x : B) → Clashes P (put a x)) → (a : A) (xs : List B) → Clashes P (pour put a xs)
+  unfolding pour
+  pour-clashes put h a [] = merges
+  pour-clashes put h a (x ∷ xs) = bind-clashes (h a x) λ b. pour-clashes put h b xs
+
+module _ {numbers : List ℕ} where
+  pub then-answers : {A : Type 0} {r : Step A} {f : A → Answer} → Refuses (Among numbers) r → ((a : A) → AnswersBy numbers (f a)) → AnswersBy numbers (andThen r f)
+  unfolding andThen
+  then-answers (gives {a}) k = k a
+  then-answers (stops h) k = refusesBy h
+
+  pub sheet-answers : {r : Step Schema} → Refuses (Among numbers) r → AnswersBy numbers (sheetAnswer r)
+  unfolding sheetAnswer
+  sheet-answers h = then-answers h λ x. answers
+
+-- Reading
+
+-- what an id is refused with
+abbrev pub idNumbers : List ℕ
+idNumbers = idTooLarge ∷ idRepeated ∷ []
+
+-- what a sheet is refused with while it is read, whatever comes after it
+abbrev pub readingNumbers : List ℕ
+readingNumbers = endsInside ∷ sheetTooLong ∷ tooDeep ∷ malformed ∷ notUtf8 ∷ keyNotAbove ∷ idNumbers
+
+abbrev pub sheetNumbers : List ℕ
+sheetNumbers = readingNumbers ++ (bytesLeft ∷ [])
+
+abbrev pub trainNumbers : List ℕ
+trainNumbers = readingNumbers ++ (tooManySheets ∷ [])
+
+abbrev Reading : ℕ → Type 0
+Reading n = Among readingNumbers n
+
+id-fits : (seen : List ℕ) (i : ℕ) → Verdict (Among idNumbers) (idFits seen i)
+unfolding among
+id-fits seen i = then-verdict (unless-verdict _ idTooLarge refl) (unless-verdict _ idRepeated refl)
+
+module _ (s : Bytes) (limit : ℕ) where
+  item-refuses : (n : ℕ) (fits : Bytes → ℕ) → ((b : Bytes) → Verdict Reading (fits b)) → (place : ℕ) → Refuses Reading (readItem s limit n fits place)
+  unfolding readItem among
+  item-refuses n fits h place =
+      judged-refuses place _ _ (then-verdict (unless-verdict _ endsInside refl) (then-verdict (unless-verdict _ sheetTooLong refl) (h _)))
+
+  number-refuses : (n : ℕ) (fits : ℕ → ℕ) → ((x : ℕ) → Verdict Reading (fits x)) → (place : ℕ) → Refuses Reading (readNumber s limit n fits place)
+  unfolding readNumber
+  number-refuses n fits h place = next-refuses (item-refuses n _ (λ b. h (num b)) place) λ b e. gives
+
+  text-item : (n place : ℕ) → Refuses Reading (readItem s limit n isText place)
+  unfolding among
+  text-item n place = item-refuses n isText (λ b. unless-verdict _ notUtf8 refl) place
+
+  count-refuses : (least place : ℕ) → Refuses Reading (readNumber s limit 2 (atLeast least) place)
+  unfolding among
+  count-refuses least place = number-refuses 2 _ (λ x. unless-verdict _ malformed refl) place
+
+  text-refuses : (least place : ℕ) → Refuses Reading (readText s limit least place)
+  unfolding readText
+  text-refuses least place = next-refuses (count-refuses least place) λ n m. text-item n m
+
+  pair-refuses : (seen : Metadata) (place : ℕ) → Refuses Reading (readPair s limit seen place)
+  unfolding readPair among
+  pair-refuses seen place =
+      next-refuses (text-refuses 0 place) λ k m.
+      next-refuses (judged-refuses place k m (unless-verdict _ keyNotAbove refl)) λ k m.
+      next-refuses (text-refuses 0 m) λ v e. gives
+
+  list-refuses : {A : Type 0} (least : ℕ) (one : List A → Reader A) → ((seen : List A) (place : ℕ) → Refuses Reading (one seen place))
+      → (place : ℕ) → Refuses Reading (readList s limit least one place)
+  unfolding readList
+  list-refuses least one h place = next-refuses (count-refuses least place) λ n m. many-refuses one h n [] m
+
+  metadata-refuses : (place : ℕ) → Refuses Reading (readMetadata s limit place)
+  unfolding readMetadata
+  metadata-refuses place = list-refuses 1 _ pair-refuses place
+
+  module _ (l : ℕ) (readType : Bool → Reader (DataType l)) (type-refuses : (o : Bool) (place : ℕ) → Refuses Reading (readType o place)) where
+    field-refuses : (i place : ℕ) → Refuses Reading (readField s limit l readType i place)
+    unfolding readField among
+    field-refuses i place =
+        next-refuses (number-refuses 1 (mapFits l) (λ m. then-verdict (unless-verdict _ tooDeep refl) (unless-verdict _ malformed refl)) place) λ m e₁.
+        next-refuses (set-refuses (bit 2 m) (readText s limit 1) [] e₁ (text-refuses 1 e₁)) λ n e₂.
+        next-refuses (set-refuses (bit 3 m) (readMetadata s limit) [] e₂ (metadata-refuses e₂)) λ d e₃.
+        next-refuses (type-refuses (bit 1 m) e₃) λ t e. gives
+
+    bare-refuses : (place : ℕ) → Refuses Reading (readBareType s limit l readType place)
+    unfolding readBareType
+    bare-refuses place = next-refuses (type-refuses false place) λ t e. gives
+
+    child-refuses : (seen : List (Field l)) (place : ℕ) → Refuses Reading (readUnionChild s limit l readType seen place)
+    unfolding readUnionChild among all
+    child-refuses seen place =
+        let ids = map (λ f. f .head .typeId) seen in
+        next-refuses (number-refuses 1 (idFits ids) (λ i. verdict-map (among-more idNumbers readingNumbers refl) (id-fits ids i)) place) λ i m.
+        field-refuses i m
+
+    children-refuse : (k : Children) (place : ℕ) → Refuses Reading (readChildren s limit l readType k place)
+    unfolding readChildren
+    children-refuse (fields n) place = many-refuses _ (λ seen p. field-refuses 0 p) n [] place
+    children-refuse keyAndValue place = many-refuses _ (λ seen p. bare-refuses p) 2 [] place
+    children-refuse counted place = list-refuses 0 _ (λ seen p. field-refuses 0 p) place
+    children-refuse countedWithIds place = list-refuses 0 _ child-refuses place
+
+  zone-refuses : (place : ℕ) → Refuses Reading (readZone s limit place)
+  unfolding readZone
+  zone-refuses place = next-refuses (item-refuses 2 _ (λ b. passes) place) λ n m. next-refuses (text-item (num n) m) λ t e. gives
+
+  param-refuses : (p : ℕ × ℕ) (place : ℕ) → Refuses Reading (readItem s limit (p .0) (paramFits p) place)
+  unfolding among
+  param-refuses p place = item-refuses (p .0) _ (λ b. unless-verdict _ malformed refl) place
+
+  params-refuse : (p : Params) (place : ℕ) → Refuses Reading (readParams s limit p place)
+  unfolding readParams among
+  params-refuse (items []) place = gives
+  params-refuse (items (p ∷ ps)) place = next-refuses (param-refuses p place) λ b m. next-refuses (params-refuse (items ps) m) λ r e. gives
+  params-refuse timestamp place =
+      next-refuses (param-refuses _ place) λ u m₁.
+      next-refuses (item-refuses 1 _ (λ b. unless-verdict _ malformed refl) m₁) λ m m₂.
+      next-refuses (set-refuses (bit 0 (num m)) (readZone s limit) [] m₂ (zone-refuses m₂)) λ z e. gives
+
+  type-refuses : (l : ℕ) (ordered : Bool) (place : ℕ) → Refuses Reading (readType s limit l ordered place)
+  unfolding readType among
+  type-refuses zero ordered place = next-refuses (item-refuses 1 _ (λ b. passes) place) λ b e. stops refl
+  type-refuses (suc l) ordered place =
+      next-refuses (number-refuses 1 _ (λ c. then-verdict (unless-verdict _ malformed refl) (unless-verdict _ malformed refl)) place) λ c m.
+      next-refuses (params-refuse (layout c .params) m) λ ps m₁.
+      next-refuses (children-refuse l _ (λ o p. type-refuses l o p) (layout c .children) m₁) λ ks e. gives
+
+  column-refuses : (place : ℕ) → Refuses Reading (readColumn s limit place)
+  unfolding readColumn
+  column-refuses place = field-refuses maxLevels _ (λ o p. type-refuses maxLevels o p) 0 place
+
+  -- a sheet of a train or alone, before what follows it is looked at
+  pub schema-refuses : (place : ℕ) → Refuses (Among readingNumbers) (readSchema s limit place)
+  unfolding readSchema among
+  schema-refuses place =
+      next-refuses (number-refuses 1 _ (λ m. unless-verdict _ malformed refl) place) λ m e₁.
+      next-refuses (set-refuses (bit 0 m) (readMetadata s limit) [] e₁ (metadata-refuses e₁)) λ d e₂.
+      next-refuses (set-refuses (bit 1 m) _ [] e₂ (list-refuses 1 _ (λ seen p. column-refuses p) e₂)) λ cs e. gives
+
+sheets-refuse : (s : Bytes) (n place : ℕ) → Refuses (Among trainNumbers) (readSheets s n place)
+unfolding readSheets among all
+sheets-refuse s zero place = choose-refuses _ _ _ gives (stops refl)
+sheets-refuse s (suc n) place =
+    choose-refuses _ _ _ gives
+    (next-refuses (refuses-map (among-more readingNumbers trainNumbers refl) (schema-refuses s (place + maxSheetBytes) place)) λ x e.
+    next-refuses (sheets-refuse s n e) λ xs e. gives)
+
+-- a train is refused with 1 to 7, 9 and 33
+pub train-refuses : (train : Bytes) → Refuses (Among trainNumbers) (readTrain train)
+unfolding readTrain
+train-refuses train = sheets-refuse train maxSheets 0
+
+-- Merging
+
+-- what two fields clash with
+abbrev pub fieldNumbers : List ℕ
+fieldNumbers = orderedClash ∷ fieldMetadataClash ∷ typeClash ∷ equalChildClash ∷ typeIdClash ∷ []
+
+abbrev pub clashNumbers : List ℕ
+clashNumbers = schemaMetadataClash ∷ fieldNumbers
+
+abbrev pub mergeNumbers : List ℕ
+mergeNumbers = trainNumbers ++ clashNumbers
+
+abbrev Clashing : ℕ → Type 0
+Clashing n = Among fieldNumbers n
+
+module _ {P : ℕ → Type 0} (n : ℕ) (h : P n) where
+  merge-pair-clashes : (m : Metadata) (p : Bytes × Bytes) → Clashes P (mergePair n m p)
+  unfolding mergePair
+  merge-pair-clashes [] p = merges
+  merge-pair-clashes (q ∷ qs) p =
+      choose-clashes _ _ _ (bind-clashes (merge-pair-clashes qs p) λ r. merges)
+      (choose-clashes _ _ _ merges (need-clashes _ n (q ∷ qs) h))
+
+  merge-metadata-clashes : (old new : Metadata) → Clashes P (mergeMetadata n old new)
+  unfolding mergeMetadata
+  merge-metadata-clashes old new = pour-clashes _ merge-pair-clashes old new
+
+module _ {T : Type 0} where
+  merge-by-name-clashes : (merge : FieldOver T → FieldOver T → Merged (FieldOver T)) → ((f g : FieldOver T) → Clashes Clashing (merge f g))
+      → (gs : List (FieldOver T)) (f : FieldOver T) → Clashes Clashing (mergeByName merge gs f)
+  unfolding mergeByName
+  merge-by-name-clashes merge h [] f = merges
+  merge-by-name-clashes merge h (g ∷ gs) f =
+      choose-clashes _ _ _ (bind-clashes (h g f) λ r. merges) (bind-clashes (merge-by-name-clashes merge h gs f) λ r. merges)
+
+  merge-child-clashes : (eq : T → T → Bool) (gs : List (FieldOver T)) (f : FieldOver T) → Clashes Clashing (mergeChild eq gs f)
+  unfolding mergeChild among
+  merge-child-clashes eq [] f = merges
+  merge-child-clashes eq (g ∷ gs) f =
+      choose-clashes _ _ _ (need-clashes _ equalChildClash (g ∷ gs) refl) (bind-clashes (merge-child-clashes eq gs f) λ r. merges)
+
+module _ {T : Type 0} (merge : T → T → Merged T) (isNull : T → Bool) (h : (a b : T) → Clashes Clashing (merge a b)) where
+  merge-field-clashes : (f g : FieldOver T) → Clashes Clashing (mergeField merge isNull f g)
+  unfolding mergeField among
+  merge-field-clashes f g =
+      bind-clashes (need-clashes _ orderedClash tt refl) λ u.
+      bind-clashes (merge-metadata-clashes fieldMetadataClash refl (f .head .metadata) (g .head .metadata)) λ m.
+      bind-clashes (h (f .dataType) (g .dataType)) λ t. merges
+
+  merge-each-clashes : (fs gs : List (FieldOver T)) → Clashes Clashing (mergeEach merge isNull fs gs)
+  unfolding mergeEach
+  merge-each-clashes [] gs = merges
+  merge-each-clashes (f ∷ fs) [] = merges
+  merge-each-clashes (f ∷ fs) (g ∷ gs) = bind-clashes (merge-field-clashes f g) λ x. bind-clashes (merge-each-clashes fs gs) λ r. merges
+
+  merge-same-code-clashes : (eq : T → T → Bool) (a b : DataTypeOver (FieldOver T)) → Clashes Clashing (mergeSameCode merge isNull eq a b)
+  unfolding mergeSameCode among
+  merge-same-code-clashes eq a b =
+      choose-clashes _ _ _
+      (bind-clashes (pour-clashes _ (merge-by-name-clashes _ merge-field-clashes) [] (a .children ++ b .children)) λ ks. merges)
+      (choose-clashes _ _ _
+      (bind-clashes (pour-clashes _ (merge-child-clashes eq) (a .children) (b .children)) λ ks. need-clashes _ typeIdClash _ refl)
+      (choose-clashes _ _ _
+      (bind-clashes (merge-each-clashes (a .children) (b .children)) λ ks. merges)
+      (need-clashes _ typeClash a refl)))
+
+merge-type-clashes : (l : ℕ) (a b : DataType l) → Clashes Clashing (mergeType l a b)
+unfolding mergeType among
+merge-type-clashes zero a b = absurd a
+merge-type-clashes (suc l) a b =
+    choose-clashes _ _ _ merges
+    (choose-clashes _ _ _ merges
+    (choose-clashes _ _ _ (clashes refl)
+    (merge-same-code-clashes (λ x y. mergeType l x y) _ (λ x y. merge-type-clashes l x y) _ a b)))
+
+-- two schemas clash with 20 to 25
+pub merge-schema-clashes : (x y : Schema) → Clashes (Among clashNumbers) (mergeSchema x y)
+unfolding mergeSchema among all
+merge-schema-clashes x y =
+    bind-clashes (merge-metadata-clashes schemaMetadataClash refl (x .metadata) (y .metadata)) λ m.
+    bind-clashes (clashes-map (among-more fieldNumbers clashNumbers refl)
+    (pour-clashes _ (merge-by-name-clashes _ (merge-field-clashes _ _ (merge-type-clashes maxLevels))) (x .columns) (y .columns))) λ cs. merges
+
+merge-from-refuses : (i : ℕ) (x : Schema) (ys : List Schema) → Refuses (Among clashNumbers) (mergeFrom i x ys)
+unfolding mergeFrom
+merge-from-refuses i x [] = gives
+merge-from-refuses i x (y ∷ ys) = next-refuses (placed-refuses i (merge-schema-clashes x y)) λ z j. merge-from-refuses j z ys
+
+-- a list of schemas clashes with 20 to 25
+pub try-merge-refuses : (xs : List Schema) → Refuses (Among clashNumbers) (tryMerge xs)
+unfolding tryMerge
+try-merge-refuses xs = merge-from-refuses 0 _ xs
+
+-- The answers
+
+-- a merge is refused with the numbers of reading a train and of a clash
+pub merge-refuses : (train : Bytes) → AnswersBy mergeNumbers (mergeAnswer train)
+unfolding mergeAnswer among all
+merge-refuses train =
+    then-answers (refuses-map (among-more trainNumbers mergeNumbers refl) (train-refuses train)) λ xs.
+    sheet-answers (refuses-map (among-more clashNumbers mergeNumbers refl) (try-merge-refuses xs))
+
+-- a merge never refuses with 0
+pub merge-numbered : (train : Bytes) → Numbered (mergeAnswer train)
+unfolding among
+merge-numbered train = answers-numbered mergeNumbers refl (merge-refuses train)
