@@ -1,18 +1,18 @@
 -- What an accepted call shows, and when a call is accepted.
-use Prim.Native.Nat.{ℕ, zero, suc, _+_, _*_, _≤_, _<_}
+use Prim.Native.Nat.{ℕ, _*_, _≤_}
 use native.Mathlib.Omega.{arith}
-use mathlib.Core.Path.{_≡_, refl, sym, ap, subst, _∙_}
-use mathlib.Core.List.{List, [], _∷_, _++_}
+use mathlib.Core.Path.{_≡_, refl, ap, _∙_}
+use mathlib.Core.List.{_++_}
 use mathlib.Core.Bool.{Bool, true, false}
-use lib.ListN.{length, drop, take}
-use lib.Seq.{take-at}
+use lib.ListN.{length, drop}
 use lib.Dec.{ltb}
-use borrow.Author.Tests.{ltb-true, ltb-false, le-ltb}
+use borrow.Author.Tests.{ltb-false, le-ltb}
 use Rattle.model.specs.Numbers.{maxSheetBytes, workBytesPerSheetByte, accepted}
 use Rattle.model.specs.Bytes.{Bytes, choose}
-use Rattle.model.specs.Call.{Answer, bytes, refused, Exit, zeros, refusal, acceptance, settled, call}
+use Rattle.model.specs.Call.{Answer, bytes, refused, andThen, zeros, refusal, acceptance, settled, call}
 use Rattle.model.specs.Growth.{Accepts}
-use Rattle.model.proofs.Gives.{choose-true, choose-false}
+use Rattle.model.proofs.Gives.{choose-false}
+use Rattle.model.specs.Read.{Step, got, bad}
 
 -- an answer whose refusal has a number of the table: 0 means acceptance alone
 pub data Numbered : Answer → Type 0 where
@@ -68,3 +68,17 @@ call-accepted given outcome work answer n h = go (ltb (length work) (workBytesPe
         → (b : Bytes) × Accepted given outcome work answer b
     go true p h = absurd (omega (arith, h))
     go false p h = settled-accepted given outcome work answer n (ltb-false (length work) (workBytesPerSheetByte * given) p) h
+
+-- An answer after a step
+
+pub then-inv : {A : Type 0} (r : Step A) (f : A → Answer) {b : Bytes} → andThen r f ≡ bytes b → (a : A) × (e : ℕ) × (r ≡ got a e) × (f a ≡ bytes b)
+unfolding andThen
+then-inv (got a e) f h = (a, e, refl, h)
+then-inv (bad n p) f h = let z : _≡_ {A = ℕ} 0 1 = cc in absurd (omega arith)
+
+pub answer-then : {A : Type 0} {r : Step A} (f : A → Answer) {a : A} {e : ℕ} {b : Answer} → r ≡ got a e → f a ≡ b → andThen r f ≡ b
+unfolding andThen
+answer-then f p q = ap (λ r. andThen r f) p ∙ q
+
+pub bytes-inv : {a b : Bytes} → bytes a ≡ bytes b → a ≡ b
+bytes-inv h = cc

@@ -1,32 +1,30 @@
 -- Demand 3: what is merged first only grows, and is accepted where all is.
-use Prim.Native.Nat.{ℕ, zero, suc, _+_, _*_, _≤_, _<_}
+use Prim.Native.Nat.{ℕ, zero, suc, _≤_}
 use native.Mathlib.Omega.{arith}
 use mathlib.Core.Path.{_≡_, refl, sym, ap, subst, _∙_}
-use mathlib.Core.Logic.{_⊎_, inl, inr}
-use mathlib.Core.List.{List, [], _∷_, _++_, append-assoc, map}
+use mathlib.Core.List.{List, [], _∷_, _++_}
 use mathlib.Core.Bool.{Bool, true, false}
-use lib.ListN.{length, take, drop, length-append}
+use lib.ListN.{length, drop, length-append}
 use lib.Seq.{take-at}
 use lib.Dec.{leb}
 use borrow.Author.Tests.{leb-true, leb-false}
-use Rattle.model.specs.Numbers.{maxLevels, maxSheetBytes, maxSheets, workBytesPerSheetByte}
-use Rattle.model.specs.Bytes.{Bytes, AreBytes, Every, sameBytes}
-use Rattle.model.specs.Tree.{FieldOver, DataType, Field, Schema, blank, Null, Children, fields, keyAndValue, counted, countedWithIds, layout, table}
+use Rattle.model.specs.Numbers.{maxLevels, maxSheetBytes, maxSheets}
+use Rattle.model.specs.Bytes.{Bytes, Every, sameBytes}
+use Rattle.model.specs.Tree.{DataType, Field, Schema, Null, fields, layout, table}
 use Rattle.model.specs.Sheet.{each, childrenBytes, typeBytes, sheetBytes}
-use Rattle.model.specs.Read.{Step, got, bad, next, idFits, readSheet, readTrain}
-use Rattle.model.specs.Merge.{Merged, done, clash, mergeSchema, empty, placed, mergeFrom, tryMerge}
-use Rattle.model.specs.Call.{Answer, bytes, refused, andThen, sheetAnswer, mergeAnswer, Exit, zeros, call, mergeCall}
-use Rattle.model.specs.Growth.{Distinct, names, NoNameTwice, SheetOfDemand3, endToEnd, Accepts, WroteSheet, GrownSchema, Demand3}
-use Rattle.model.proofs.Lists.{every-append, every-both, each-append}
+use Rattle.model.specs.Read.{Step, got, bad, next, readSheet, readTrain}
+use Rattle.model.specs.Merge.{mergeSchema, empty, placed, mergeFrom, tryMerge}
+use Rattle.model.specs.Call.{Answer, bytes, sheetAnswer, mergeAnswer, call}
+use Rattle.model.specs.Growth.{Distinct, names, NoNameTwice, SheetOfDemand3, endToEnd, WroteSheet, Demand3}
+use Rattle.model.proofs.Lists.{every-append, every-map, every-both, each-append}
 use Rattle.model.proofs.ByteStrings.{differ-same-bytes}
-use Rattle.model.proofs.Gives as gives
-use Rattle.model.proofs.Gives.{Gives}
-use Rattle.model.proofs.Steps.{Holds, value, refusal, of-got, next-holds, holds-map, next-got}
-use Rattle.model.proofs.WellFormed.{Each, each-every, WellFormedParams, WellFormedField, WellFormedChildren, WellFormedType, WellFormedColumn, WellFormedSchema}
-use Rattle.model.proofs.MergeKeeps.{schema-keeps, empty-well-formed}
+use Rattle.model.proofs.Gives.{placed-holds}
+use Rattle.model.proofs.Steps.{Holds, value, of-got, next-holds, holds-map, got-inv, next-inv}
+use Rattle.model.proofs.WellFormed.{WellFormedParams, WellFormedChildren, WellFormedType, WellFormedSchema, SomeOrder, children-types, column-types}
+use Rattle.model.proofs.MergeKeeps.{empty-well-formed, merge-keeps}
 use Rattle.model.proofs.WholeSheets.{Fits, sheet-exact, sheet-reads, train-reads, train-refuses}
 use Rattle.model.proofs.Grows.{Apart, Tidy, Standing, SchemaGrew, schema-grows, schema-refl, schema-trans, schema-grown}
-use Rattle.model.proofs.Calls.{Accepted, accepted-call, call-accepted, Numbered}
+use Rattle.model.proofs.Calls.{Accepted, accepted-call, call-accepted, then-inv, answer-then, bytes-inv}
 use Rattle.model.proofs.Refusals.{merge-numbered}
 
 -- What reads without refusal and has no struct with a name twice is tidy
@@ -51,23 +49,13 @@ null-alone l o t w e =
     go [] (k ∷ ks) p q = absurd (omega (arith, q))
     go (x ∷ ps) ks p q = absurd (omega (arith, ap length p))
 
--- the types that a well-formed type holds are well-formed
-abbrev Held : {T : Type 0} → (Bool → T → Type 0) → FieldOver T → Type 0
-Held G f = (o : Bool) × G o (f .dataType)
-
-children-well-formed : {T : Type 0} (G : Bool → T → Type 0) (k : Children) (ks : List (FieldOver T)) → WellFormedChildren G k ks → Every (Held G) ks
-children-well-formed G (fields n) ks h = each-every _ (Held G) (λ s x w. (_, w .0 .dataType)) [] ks (h .1)
-children-well-formed G keyAndValue ks h = each-every _ (Held G) (λ s x w. (false, w .1)) [] ks (h .1)
-children-well-formed G counted ks h = each-every _ (Held G) (λ s x w. (_, w .0 .dataType)) [] ks h
-children-well-formed G countedWithIds ks h = each-every _ (Held G) (λ s x w. (_, w .0 .dataType)) [] ks h
-
 tidy-type : (l : ℕ) (o : Bool) (t : DataType l) → NoNameTwice l t → WellFormedType l o t → Tidy l t
 tidy-type zero o t n w = absurd n
 tidy-type (suc l) o t n w = (
   λ e. distinct-apart (names (t .children)) (n .0 e),
   null-alone l o t w,
-  every-both (λ f. NoNameTwice l (f .dataType)) (Held (WellFormedType l)) (λ f. Tidy l (f .dataType)) (λ f p q. tidy-type l (q .0) (f .dataType) p (q .1)) (t .children)
-      (n .1) (children-well-formed (WellFormedType l) (layout (t .code) .children) (t .children) (w .2)),
+  every-both (λ f. NoNameTwice l (f .dataType)) (SomeOrder (WellFormedType l)) (λ f. Tidy l (f .dataType)) (λ f p q. tidy-type l (q .0) (f .dataType) p (q .1)) (t .children)
+      (n .1) (children-types (WellFormedType l) (layout (t .code) .children) (t .children) (w .2)),
 )
 
 pub TidySchema : Schema → Type 0
@@ -76,9 +64,8 @@ TidySchema x = Every (λ f. Tidy maxLevels (f .dataType)) (x .columns)
 tidy-schema : (x : Schema) → WellFormedSchema x → Every (λ f. NoNameTwice maxLevels (f .dataType)) (x .columns) → TidySchema x
 unfolding TidySchema
 tidy-schema x w n =
-    every-both (λ f. NoNameTwice maxLevels (f .dataType)) (Held (WellFormedType maxLevels)) (λ f. Tidy maxLevels (f .dataType))
-    (λ f p q. tidy-type maxLevels (q .0) (f .dataType) p (q .1)) (x .columns) n
-    (each-every (λ seen k. WellFormedColumn k) (Held (WellFormedType maxLevels)) (λ s f w. (f .head .dictIsOrdered, w .0 .dataType)) [] (x .columns) (w .columns))
+    every-both (λ f. NoNameTwice maxLevels (f .dataType)) (SomeOrder (WellFormedType maxLevels)) (λ f. Tidy maxLevels (f .dataType))
+    (λ f p q. tidy-type maxLevels (q .0) (f .dataType) p (q .1)) (x .columns) n (column-types x w)
 
 -- Whole sheets, and the schemas that they hold
 
@@ -121,17 +108,6 @@ merge-append i x (y ∷ ys) zs = go (placed i (mergeSchema x y)) (λ z j. merge-
     go (got z j) h = h z j
     go (bad n p) h = refl
 
--- a step that goes on to a value gave one itself
-next-inv : {A B : Type 0} (r : Step A) (f : A → ℕ → Step B) {b : B} {e : ℕ} → next r f ≡ got b e → (a : A) × (m : ℕ) × (r ≡ got a m) × (f a m ≡ got b e)
-unfolding next
-next-inv (got a m) f h = (a, m, refl, h)
-next-inv (bad n p) f h = let z : _≡_ {A = ℕ} 0 1 = cc in absurd (omega arith)
-
-placed-holds : {A : Type 0} {P : A → Type 0} (i : ℕ) {r : Merged A} → Gives P r → Holds (λ a e. P a) (placed i r)
-unfolding placed
-placed-holds i (gives.value h) = value h
-placed-holds i gives.refusal = refusal
-
 merge-grows : (i : ℕ) (x : Schema) (ys : List Schema) → Standing x → Every TidySchema ys → Holds (λ z e. Standing z × SchemaGrew x z) (mergeFrom i x ys)
 unfolding mergeFrom TidySchema
 merge-grows i x [] g n = value (g, schema-refl x)
@@ -140,27 +116,7 @@ merge-grows i x (y ∷ ys) g n =
     holds-map (merge-grows j z ys (h .0) (n .1)) λ w e k.
     (k .0, schema-trans x z w (h .1) (k .1))
 
-merge-well-formed : (i : ℕ) (x : Schema) (ys : List Schema) → WellFormedSchema x → Every Fits ys → Holds (λ z e. WellFormedSchema z) (mergeFrom i x ys)
-unfolding mergeFrom
-merge-well-formed i x [] g f = value g
-merge-well-formed i x (y ∷ ys) g f = next-holds (placed-holds i (schema-keeps x y g (f .0 .wellFormed))) λ z j h. merge-well-formed j z ys h (f .1)
-
 -- The call on whole sheets: accepted exactly where their schemas merge, with room
-
-then-inv : {A : Type 0} (r : Step A) (f : A → Answer) {b : Bytes} → andThen r f ≡ bytes b → (a : A) × (e : ℕ) × (r ≡ got a e) × (f a ≡ bytes b)
-unfolding andThen
-then-inv (got a e) f h = (a, e, refl, h)
-then-inv (bad n p) f h = let z : _≡_ {A = ℕ} 0 1 = cc in absurd (omega arith)
-
-then-got : {A : Type 0} {r : Step A} (f : A → Answer) {a : A} {e : ℕ} {b : Answer} → r ≡ got a e → f a ≡ b → andThen r f ≡ b
-unfolding andThen
-then-got f p q = ap (λ r. andThen r f) p ∙ q
-
-bytes-inv : {a b : Bytes} → bytes a ≡ bytes b → a ≡ b
-bytes-inv h = cc
-
-got-inv : {A : Type 0} {a b : A} {e f : ℕ} → got a e ≡ got b f → a ≡ b
-got-inv h = cc
 
 -- an accepted merge of whole sheets had at most 256 of them, and their schemas merge
 record MergedTo (xs : List Schema) (b : Bytes) (z : Schema) : Type 0 where
@@ -190,14 +146,14 @@ merge-inv xs b f h =
 
 merge-of : (xs : List Schema) (b : Bytes) (z : Schema) → Every Fits xs → MergedTo xs b z → mergeAnswer (each sheetBytes xs) ≡ bytes b
 unfolding mergeAnswer sheetAnswer
-merge-of xs b z f m = then-got _ (train-reads xs f (m .count)) (then-got _ (m .merges) (ap bytes (sym (m .written))))
+merge-of xs b z f m = answer-then _ (train-reads xs f (m .count)) (answer-then _ (m .merges) (ap bytes (sym (m .written))))
 
 -- an accepted merge wrote a sheet that reads as the merged schema
 wrote : (xs : List Schema) (b : Bytes) (z : Schema) {given : ℕ} {outcome : Answer} {work answer : Bytes} → Every Fits xs → MergedTo xs b z → Accepted given outcome work answer b
     → WroteSheet (call given outcome work answer) z
 unfolding tryMerge
 wrote xs b z {given} {outcome} {work} {answer} f m a =
-    let good : WellFormedSchema z = of-got (subst (Holds (λ z e. WellFormedSchema z)) (m .merges) (merge-well-formed 0 empty xs empty-well-formed f)) in
+    let good : WellFormedSchema z = of-got (subst (Holds (λ z e. WellFormedSchema z)) (m .merges) (merge-keeps 0 empty xs empty-well-formed (every-map Fits WellFormedSchema (λ x f. f .wellFormed) xs f))) in
     let fits : Fits z = record { wellFormed = good; size = subst (λ b. length b ≤ maxSheetBytes) (m .written) (a .size) } in
     subst (λ e. WroteSheet e z) (sym (accepted-call a))
     (ap readSheet (take-at b (drop (length b) answer) (length b) refl) ∙ subst (λ b. readSheet b ≡ got z (length b)) (sym (m .written)) (sheet-reads z fits))

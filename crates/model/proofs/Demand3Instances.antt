@@ -1,18 +1,18 @@
 -- Demand 3 speaks of something: two sheets with something to grow at every rule meet it. And its condition on structs is needed.
-use Prim.Native.Nat.{ℕ, zero, suc, _+_, _≤_, _<_}
+use Prim.Native.Nat.{ℕ, zero, suc, _≤_, _<_}
 use native.Mathlib.Omega.{arith}
-use mathlib.Core.Path.{_≡_, refl, sym, ap, subst, subst₂, _∙_}
+use mathlib.Core.Path.{_≡_, refl, sym, ap, subst, subst₂}
 use mathlib.Core.List.{List, [], _∷_, _++_}
 use mathlib.Core.Bool.{Bool, true, false, not, _&&_, _||_, false≢true}
-use lib.ListN.{length, getD}
+use lib.ListN.{length}
 use lib.Dec.{eqb, ltb}
 use borrow.Author.Tests.{ltb-true, eq-eqb, not-true}
 use Rattle.model.specs.Numbers.{maxLevels}
 use Rattle.model.specs.Bytes.{Bytes, AreBytes, Every, all, sameBytes}
 use Rattle.model.specs.Tree.{DataTypeOver, FieldOver, DataType, Schema, Struct}
-use Rattle.model.specs.Read.{Step, got, readSheet}
+use Rattle.model.specs.Read.{got, readSheet}
 use Rattle.model.specs.Call.{bytes, mergeAnswer, mergeCall, zeros}
-use Rattle.model.specs.Growth.{Begins, here, onto, Pairwise, GrownField, GrownOver, identical, wasNull, struct, list, largeList, union, Grown, GrownSchema, Distinct, names, NoNameTwice, WholeSheet, SheetOfDemand3, Accepts, WroteSheet, MergeOnlyGrows}
+use Rattle.model.specs.Growth.{Begins, here, onto, GrownOver, identical, wasNull, struct, list, largeList, union, GrownSchema, Distinct, names, NoNameTwice, WholeSheet, SheetOfDemand3, Accepts, WroteSheet, MergeOnlyGrows}
 use Rattle.model.specs.Examples as sheets
 use Rattle.model.proofs.Lists.{and-true}
 use Rattle.model.proofs.ByteStrings.{same-bytes-differ}

@@ -1,17 +1,17 @@
 -- Whatever is read, its bytes are those of the tree read.
-use Prim.Native.Nat.{ℕ, zero, suc, _+_, _*_, _/_, _%_, _^_, _≤_, _<_}
+use Prim.Native.Nat.{ℕ, zero, suc, _+_, _*_, _/_, _%_, _≤_, _<_}
 use native.Mathlib.Omega.{arith}
 use mathlib.Core.Path.{_≡_, refl, sym, ap, subst, subst₂, _∙_}
-use mathlib.Core.List.{List, [], _∷_, _++_, append-assoc, map}
-use mathlib.Core.Bool.{Bool, true, false, _&&_, _||_}
+use mathlib.Core.List.{List, [], _∷_, _++_, append-assoc}
+use mathlib.Core.Bool.{Bool, true, false, _&&_}
 use lib.ListN.{length, take, drop, getD, length-append, take-append-drop, length-drop}
 use lib.Seq.{getD-drop, drop-drop, length-take-le}
-use lib.Dec.{T, eqb, leb, leb→le, eqb→eq}
+use lib.Dec.{T, eqb, leb→le, eqb→eq}
 use borrow.Author.Tests.{eqb-true, eqb-false}
-use Rattle.model.specs.Bytes.{Bytes, AreBytes, Metadata, num, u16, bit, flag}
-use Rattle.model.specs.Tree.{DataType, Field, Schema, Params, items, timestamp, Children, fields, keyAndValue, counted, countedWithIds, layout}
+use Rattle.model.specs.Bytes.{num, u16, bit, flag}
+use Rattle.model.specs.Tree.{DataType, Field, Params, items, timestamp, Children, fields, keyAndValue, counted, countedWithIds, layout}
 use Rattle.model.specs.Sheet.{each, part, stands, withCount, textBytes, pairBytes, headBytes, fieldBytes, childrenBytes, typeBytes, columnBytes, sheetBytes}
-use Rattle.model.specs.Read.{Step, got, bad, Reader, next, judged, pure, ifSet, unless, _then_, atMost, atLeast, isText, mapFits, above, readMany, readItem, readNumber, readText, readPair, readList, readMetadata, readField, readBareType, readUnionChild, readChildren, readZone, readParams, readType, readColumn, readSchema}
+use Rattle.model.specs.Read.{Reader, ifSet, atLeast, isText, mapFits, readMany, readItem, readNumber, readText, readPair, readList, readMetadata, readField, readBareType, readUnionChild, readChildren, readZone, readParams, readType, readColumn, readSchema}
 use Rattle.model.proofs.Steps.{Holds, value, refusal, next-holds, holds-map, judged-holds, then-zero, unless-zero}
 
 -- a test that passes at each number below n, by computation

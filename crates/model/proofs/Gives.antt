@@ -1,10 +1,12 @@
 -- What holds of a merge's value, if it gives one: a law for each combinator of the merge, so that a proof is the definition's text again.
-use Prim.Native.Nat.{ℕ, zero, suc}
+use Prim.Native.Nat.{ℕ}
 use mathlib.Core.Path.{_≡_, refl, ap}
 use mathlib.Core.List.{List, [], _∷_, _++_}
 use mathlib.Core.Bool.{Bool, true, false}
 use Rattle.model.specs.Bytes.{choose, Every}
-use Rattle.model.specs.Merge.{Merged, done, clash, _>>=_, need, pour}
+use Rattle.model.specs.Merge.{Merged, done, clash, _>>=_, need, pour, placed}
+use Rattle.model.proofs.Steps as steps
+use Rattle.model.proofs.Steps.{Holds}
 
 pub data Gives {A : Type 0} (P : A → Type 0) : Merged A → Type 0 where
   value : {a : A} → P a → Gives P (done a)
@@ -67,3 +69,9 @@ choose-true b x y h = ap (λ b. choose b x y) h
 pub choose-false : {A : Type 0} (b : Bool) (x y : Unit {0} → A) → b ≡ false → choose b x y ≡ y tt
 unfolding choose
 choose-false b x y h = ap (λ b. choose b x y) h
+
+-- a merge that has a place, as a step
+pub placed-holds : {A : Type 0} {P : A → Type 0} (i : ℕ) {r : Merged A} → Gives P r → Holds (λ a e. P a) (placed i r)
+unfolding placed
+placed-holds i (value h) = steps.value h
+placed-holds i refusal = steps.refusal

@@ -1,18 +1,18 @@
 -- A merge lets what there is only grow, and gives no fewer written bytes. Sameness is that of trees here; it gives that of bytes.
-use Prim.Native.Nat.{ℕ, zero, suc, _+_, _≤_, _<_}
+use Prim.Native.Nat.{ℕ, zero, suc, _+_, _≤_}
 use native.Mathlib.Omega.{arith}
 use mathlib.Core.Path.{_≡_, refl, sym, ap, subst, _∙_}
 use mathlib.Core.Logic.{_⊎_, inl, inr}
-use mathlib.Core.List.{List, [], _∷_, _++_, append-assoc, append-nil, map, List·Memᴰ, List·Memᴰ·head, List·Memᴰ·tail}
-use mathlib.Core.Bool.{Bool, true, false, not, _&&_, _||_, Bool·beq, false≢true}
+use mathlib.Core.List.{List, [], _∷_, _++_, append-assoc, append-nil, List·Memᴰ·head, List·Memᴰ·tail}
+use mathlib.Core.Bool.{Bool, true, false, _||_, false≢true}
 use lib.ListN.{length, length-append}
 use lib.Dec.{eqb}
 use borrow.Author.Tests.{eqb-true, eqb-false}
-use Rattle.model.specs.Bytes.{Bytes, Metadata, choose, u16, Every, sameBytes, below}
-use Rattle.model.specs.Tree.{DataTypeOver, FieldOver, DataType, Field, Schema, withChildren, Null, List′, LargeList, Struct, Union, Children, fields, keyAndValue, counted, countedWithIds, layout}
+use Rattle.model.specs.Bytes.{Bytes, Metadata, choose, u16, Every, sameBytes}
+use Rattle.model.specs.Tree.{DataTypeOver, FieldOver, DataType, Field, Schema, withChildren, Null, List′, LargeList, Struct, Children, fields, counted, countedWithIds, layout}
 use Rattle.model.specs.Sheet.{each, part, stands, withCount, textBytes, pairBytes, headBytes, fieldBytes, childrenBytes, typeBytes, columnBytes, sheetBytes}
 use Rattle.model.specs.Equal.{sameType}
-use Rattle.model.specs.Merge.{Merged, done, clash, _>>=_, need, pour, mergePair, mergeMetadata, mergeByName, mergeChild, mergeField, mergeEach, isNull, mergeSameCode, mergeType, mergeSchema}
+use Rattle.model.specs.Merge.{Merged, done, _>>=_, pour, mergePair, mergeMetadata, mergeByName, mergeChild, mergeField, mergeEach, isNull, mergeSameCode, mergeType, mergeSchema}
 use Rattle.model.specs.Growth.{Begins, here, onto, Pairwise, none, pair, Kept, GrownField, GrownOver, identical, wasNull, struct, list, largeList, union, childBytes, Grown, GrownSchema, names}
 use Rattle.model.proofs.Lists.{or-left, or-right, every-unit}
 use Rattle.model.proofs.Layouts.{struct-children, union-children, list-children}

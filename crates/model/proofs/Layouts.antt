@@ -4,7 +4,7 @@ use mathlib.Core.Path.{_≡_, refl, ap}
 use mathlib.Core.Bool.{Bool, true, false, _||_, false≢true}
 use lib.Dec.{eqb}
 use borrow.Author.Tests.{eqb-true}
-use Rattle.model.specs.Tree.{Children, fields, counted, countedWithIds, layout, table, List′, LargeList, Struct, Union}
+use Rattle.model.specs.Tree.{fields, counted, countedWithIds, layout, table, List′, LargeList, Struct, Union}
 
 pub struct-children : (c : ℕ) → c ≡ Struct → layout c .children ≡ counted
 unfolding layout table

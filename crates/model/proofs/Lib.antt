@@ -9,6 +9,7 @@ pub mod WellFormed
 pub mod ReadsBack
 pub mod MergeKeeps
 pub mod ByteStrings
+pub mod GrownAt
 pub mod Grows
 pub mod Size
 pub mod WholeSheets
@@ -22,3 +23,6 @@ pub mod Demand3
 pub mod Demand3Instances
 pub mod LeafCount
 pub mod Flattened
+pub mod Equivalences
+pub mod NothingLost
+pub mod MergeAnswers

@@ -1,5 +1,5 @@
 -- Facts on tests and on lists that several laws use.
-use Prim.Native.Nat.{ℕ, _+_}
+use Prim.Native.Nat.{_+_}
 use mathlib.Core.Path.{_≡_, refl, sym, ap, _∙_}
 use mathlib.Core.List.{List, [], _∷_, _++_, append-assoc}
 use mathlib.Core.Bool.{Bool, true, false, _&&_, _||_, Bool·beq, false≢true}
@@ -39,6 +39,10 @@ every-unit (x ∷ xs) = (tt, every-unit xs)
 pub every-append : {A : Type 0} (P : A → Type 0) (xs ys : List A) → Every P xs → Every P ys → Every P (xs ++ ys)
 every-append P [] ys h k = k
 every-append P (x ∷ xs) ys h k = (h .0, every-append P xs ys (h .1) k)
+
+pub every-map : {A : Type 0} (P Q : A → Type 0) → ((x : A) → P x → Q x) → (xs : List A) → Every P xs → Every Q xs
+every-map P Q f [] h = tt
+every-map P Q f (x ∷ xs) h = (f x (h .0), every-map P Q f xs (h .1))
 
 pub every-both : {A : Type 0} (P Q R : A → Type 0) → ((x : A) → P x → Q x → R x) → (xs : List A) → Every P xs → Every Q xs → Every R xs
 every-both P Q R f [] h k = tt

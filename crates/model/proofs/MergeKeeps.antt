@@ -1,22 +1,22 @@
 -- A merge of well-formed trees is well-formed, so what a merge answers reads without refusal.
-use Prim.Native.Nat.{ℕ, zero, suc, _+_, _≤_, _<_}
-use native.Mathlib.Omega.{arith}
+use Prim.Native.Nat.{ℕ, zero, suc}
 use mathlib.Core.Path.{_≡_, refl, sym, ap, subst, _∙_}
 use mathlib.Core.List.{List, [], _∷_, _++_, map}
-use mathlib.Core.Bool.{Bool, true, false, not, _&&_, _||_, Bool·beq, false≢true}
+use mathlib.Core.Bool.{Bool, true, false, not, _||_}
 use lib.ListN.{length}
 use lib.Dec.{T, eqb, leb}
 use borrow.Author.Tests.{eqb-true, eqb-false, ne-eqb, not-true, not-false}
-use Rattle.model.specs.Bytes.{Bytes, Metadata, choose, Every, below, among}
-use Rattle.model.specs.Tree.{FieldOver, DataType, Field, Schema, withChildren, Children, fields, counted, countedWithIds, layout}
-use Rattle.model.specs.Read.{unless, _then_, above, isText, codeFits, idFits}
+use Rattle.model.specs.Bytes.{Bytes, Metadata, Every, among}
+use Rattle.model.specs.Tree.{FieldOver, DataType, Field, Schema, withChildren, Children, counted, countedWithIds}
+use Rattle.model.specs.Read.{unless, isText, idFits}
 use Rattle.model.specs.Equal.{sameType}
-use Rattle.model.specs.Merge.{Merged, done, clash, _>>=_, need, pour, mergePair, mergeMetadata, mergeByName, mergeChild, idsDiffer, mergeField, mergeEach, isNull, mergeSameCode, mergeType, mergeSchema, empty}
+use Rattle.model.specs.Merge.{Merged, mergePair, mergeMetadata, mergeByName, mergeChild, idsDiffer, mergeField, mergeEach, isNull, mergeSameCode, mergeType, mergeSchema, empty, mergeFrom}
 use Rattle.model.proofs.Lists.{and-true, or-false, beq-eq, every-append}
-use Rattle.model.proofs.Gives.{Gives, value, refusal, bind-gives, need-gives, choose-gives, gives-map, pour-keeps}
-use Rattle.model.proofs.Steps.{then-zero, unless-zero, unless-got, then-got}
+use Rattle.model.proofs.Gives.{Gives, value, refusal, bind-gives, need-gives, choose-gives, gives-map, pour-keeps, placed-holds}
+use Rattle.model.proofs.Steps.{Holds, next-holds, then-zero, unless-got, then-got}
 use Rattle.model.proofs.Layouts.{struct-children, union-children, list-children}
-use Rattle.model.proofs.WellFormed.{Each, every-each, each-every, WellFormedPair, WellFormedParams, WellFormedField, WellFormedChildren, WellFormedType, WellFormedColumn, WellFormedSchema}
+use Rattle.model.proofs.WellFormed.{Each, every-each, each-every, WellFormedPair, WellFormedField, WellFormedChildren, WellFormedType, WellFormedSchema}
+use Rattle.model.proofs.Steps as steps
 
 -- Metadata
 
@@ -174,3 +174,9 @@ schema-keeps x y g h =
 
 pub empty-well-formed : WellFormedSchema empty
 empty-well-formed = record { metadata = tt; columns = tt }
+
+-- so what is merged from well-formed schemas is one
+pub merge-keeps : (i : ℕ) (x : Schema) (ys : List Schema) → WellFormedSchema x → Every WellFormedSchema ys → Holds (λ z e. WellFormedSchema z) (mergeFrom i x ys)
+unfolding mergeFrom
+merge-keeps i x [] g f = steps.value g
+merge-keeps i x (y ∷ ys) g f = next-holds (placed-holds i (schema-keeps x y g (f .0))) λ z j h. merge-keeps j z ys h (f .1)

@@ -1,20 +1,20 @@
 -- A tree that a sheet can hold reads back from its bytes, at any place in any bytes.
-use Prim.Native.Nat.{ℕ, zero, suc, _+_, _*_, _/_, _%_, _^_, _≤_, _<_}
+use Prim.Native.Nat.{ℕ, zero, suc, _+_, _*_, _/_, _%_, _≤_, _<_}
 use native.Mathlib.Omega.{arith}
 use mathlib.Core.Path.{_≡_, refl, sym, ap, subst, _∙_}
-use mathlib.Core.List.{List, [], _∷_, _++_, append-assoc, append-nil, map}
+use mathlib.Core.List.{List, [], _∷_, _++_, append-assoc, map}
 use mathlib.Core.Bool.{Bool, true, false}
 use lib.ListN.{length, take, drop, length-append}
-use lib.Seq.{drop-drop, drop-length, take-at, drop-at}
+use lib.Seq.{drop-drop, take-at, drop-at}
 use lib.Dec.{lit≤}
 use borrow.Author.Tests.{le-leb, lt-ltb}
-use Rattle.model.specs.Numbers.{maxLevels, maxSheetBytes}
+use Rattle.model.specs.Numbers.{maxLevels}
 use Rattle.model.specs.Bytes.{Bytes, Metadata, num, u16, bit, flag}
 use Rattle.model.specs.Tree.{DataType, Field, Schema, blank, Params, items, timestamp, Children, fields, keyAndValue, counted, countedWithIds, layout}
 use Rattle.model.specs.Sheet.{each, part, stands, withCount, textBytes, pairBytes, headBytes, fieldBytes, childrenBytes, typeBytes, columnBytes, sheetBytes}
-use Rattle.model.specs.Read.{Step, got, bad, Reader, next, judged, ifSet, unless, _then_, atMost, atLeast, isText, mapFits, idFits, paramFits, readMany, readItem, readNumber, readText, readPair, readList, readMetadata, readField, readBareType, readUnionChild, readChildren, readZone, readParams, readType, readColumn, readSchema, readSheet}
+use Rattle.model.specs.Read.{got, Reader, ifSet, atMost, isText, mapFits, idFits, readMany, readItem, readNumber, readText, readPair, readList, readMetadata, readField, readBareType, readUnionChild, readChildren, readZone, readParams, readType, readColumn, readSchema}
 use Rattle.model.proofs.Steps.{next-got, judged-got, then-got, unless-got}
-use Rattle.model.proofs.WellFormed.{Each, WellFormedPair, WellFormedItems, WellFormedZone, WellFormedParams, WellFormedField, WellFormedChildren, WellFormedType, WellFormedColumn, WellFormedSchema}
+use Rattle.model.proofs.WellFormed.{Each, WellFormedPair, WellFormedZone, WellFormedParams, WellFormedField, WellFormedChildren, WellFormedType, WellFormedColumn, WellFormedSchema}
 
 -- each bit of a map that is a sum of flags
 map-bits : (a b c d : Bool) → let m = flag 1 a + flag 2 b + flag 4 c + flag 8 d in (bit 0 m ≡ a) × (bit 1 m ≡ b) × (bit 2 m ≡ c) × (bit 3 m ≡ d) × (m ≤ 15)

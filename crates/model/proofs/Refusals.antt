@@ -3,16 +3,15 @@ use Prim.Native.Nat.{ℕ, zero, suc, _+_}
 use mathlib.Core.Path.{_≡_, refl, sym, ap, subst, _∙_}
 use mathlib.Core.List.{List, [], _∷_, _++_, map}
 use mathlib.Core.Bool.{Bool, true, false, _||_, false≢true}
-use lib.ListN.{length}
 use lib.Dec.{eqb}
 use borrow.Author.Tests.{eqb-true}
 use Rattle.model.specs.Numbers.{maxLevels, maxSheetBytes, maxSheets, accepted, endsInside, sheetTooLong, tooDeep, malformed, notUtf8, keyNotAbove, idTooLarge, idRepeated, bytesLeft, tooManySheets}
 use Rattle.model.specs.Numbers.{schemaMetadataClash, orderedClash, fieldMetadataClash, typeClash, equalChildClash, typeIdClash}
 use Rattle.model.specs.Bytes.{Bytes, Metadata, choose, all, num, bit, among}
 use Rattle.model.specs.Tree.{DataTypeOver, FieldOver, DataType, Field, Schema, Params, items, timestamp, Children, fields, keyAndValue, counted, countedWithIds, layout}
-use Rattle.model.specs.Read.{Step, got, bad, Reader, next, judged, pure, ifSet, unless, _then_, atMost, atLeast, anything, isText, mapFits, codeFits, idFits, paramFits, readMany, readItem, readNumber, readText, readPair, readList, readMetadata, readField, readBareType, readUnionChild, readChildren, readZone, readParams, readType, readColumn, readSchema, readSheet, shifted, readTwo, readSheets, readTrain}
-use Rattle.model.specs.Merge.{Merged, done, clash, _>>=_, need, pour, mergePair, mergeMetadata, mergeByName, mergeChild, idsDiffer, mergeField, mergeEach, mergeSameCode, mergeType, mergeSchema, placed, mergeFrom, tryMerge}
-use Rattle.model.specs.Call.{Answer, bytes, refused, andThen, sheetAnswer, yesNo, mergeAnswer}
+use Rattle.model.specs.Read.{Step, got, bad, Reader, next, judged, ifSet, unless, _then_, atLeast, isText, mapFits, idFits, paramFits, readMany, readItem, readNumber, readText, readPair, readList, readMetadata, readField, readBareType, readUnionChild, readChildren, readZone, readParams, readType, readColumn, readSchema, shifted, readSheets, readTrain}
+use Rattle.model.specs.Merge.{Merged, done, clash, _>>=_, need, pour, mergePair, mergeMetadata, mergeByName, mergeChild, mergeField, mergeEach, mergeSameCode, mergeType, mergeSchema, placed, mergeFrom, tryMerge}
+use Rattle.model.specs.Call.{Answer, bytes, refused, andThen, sheetAnswer, mergeAnswer}
 use Rattle.model.proofs.Lists.{and-true}
 use Rattle.model.proofs.Calls.{Numbered, answered, refusing}
 

@@ -1,8 +1,7 @@
 -- P1 to P12, proved as one statement by computation, and the program's line for P3.
-use Prim.Native.Nat.{ℕ}
 use mathlib.Core.Path.{_≡_, refl}
-use mathlib.Core.List.{List, [], _∷_, _++_}
-use Rattle.model.specs.Bytes.{Bytes, choose, all, any, num, u16, bit, same, onward, position, below, among, getIs}
+use mathlib.Core.List.{[], _∷_}
+use Rattle.model.specs.Bytes.{choose, all, any, num, u16, bit, same, onward, position, below, among, getIs}
 use Rattle.model.specs.Text.{rows, rowOf, utf8From, utf8}
 use Rattle.model.specs.Tree.{table, layout}
 use Rattle.model.specs.Sheet.{withCount, textBytes, pairBytes, headBytes, fieldBytes, childrenBytes, typeBytes, sheetBytes}
@@ -14,7 +13,7 @@ use Rattle.model.specs.Schema.{indices, select, indexFits, selected, pro
 use Rattle.model.specs.Filter.{filterEach, filterLeaf, filterTo, filterField, withLeft, around, lookThrough, filterType, leavesOfSecond, fieldLeafCount, leafCountOfEach, typeLeafCount, leafCount, filterColumns, filterLeaves}
 use Rattle.model.specs.Call.{andThen, sheetAnswer, yesNo, mergeAnswer, projectAnswer, filterAnswer, normalizeAnswer, containsAnswer, zeros, refusal, acceptance, settled, call}
 use Rattle.model.specs.Program.{decimalOf, decimal, hexDigit, hexByte, hexOrMinus, lineOf, programLine}
-use Rattle.model.specs.Examples.{AllHold, nothing, _and_, leavesOf, P1toP12}
+use Rattle.model.specs.Examples.{nothing, _and_, leavesOf, P1toP12}
 
 -- every definition that a trial computes with
 unfoldable pub opened : Unit {0}

@@ -1,15 +1,14 @@
 -- Trees that a sheet can hold, and that reading gives no other.
-use Prim.Native.Nat.{ℕ, zero, suc, _+_, _*_, _≤_, _<_}
-use native.Mathlib.Omega.{arith}
-use mathlib.Core.Path.{_≡_, refl, sym, ap, subst, _∙_}
+use Prim.Native.Nat.{ℕ, zero, suc, _<_}
+use mathlib.Core.Path.{_≡_, refl, ap, _∙_}
 use mathlib.Core.List.{List, [], _∷_, _++_, map}
 use mathlib.Core.Bool.{Bool, true, false}
 use lib.ListN.{length, getD}
 use Rattle.model.specs.Numbers.{maxLevels, keyNotAbove}
-use Rattle.model.specs.Bytes.{Bytes, AreBytes, Metadata, Every, num, bit}
+use Rattle.model.specs.Bytes.{Bytes, Metadata, Every, num, bit}
 use Rattle.model.specs.Text.{utf8, utf8From}
 use Rattle.model.specs.Tree.{FieldOver, DataType, Field, Schema, blank, Params, items, timestamp, Children, fields, keyAndValue, counted, countedWithIds, layout, unit}
-use Rattle.model.specs.Read.{Step, got, bad, Reader, next, judged, pure, ifSet, unless, _then_, atMost, isText, mapFits, codeFits, idFits, paramFits, above, readMany, readItem, readNumber, readText, readPair, readList, readMetadata, readField, readBareType, readUnionChild, readChildren, readZone, readParams, readType, readColumn, readSchema}
+use Rattle.model.specs.Read.{Reader, ifSet, unless, atMost, isText, mapFits, codeFits, idFits, paramFits, above, readMany, readNumber, readText, readPair, readList, readMetadata, readField, readBareType, readUnionChild, readChildren, readZone, readParams, readType, readColumn, readSchema}
 use Rattle.model.proofs.Steps.{Holds, value, refusal, next-holds, holds-map, judged-holds}
 use Rattle.model.proofs.Exact.{item-holds}
 
@@ -61,12 +60,26 @@ abbrev pub WellFormedType : (l : ℕ) → Bool → DataType l → Type 0
 WellFormedType zero o t = ⊥
 WellFormedType (suc l) o t = (codeFits o (t .code) ≡ 0) × WellFormedParams (layout (t .code) .params) (t .params) × WellFormedChildren (WellFormedType l) (layout (t .code) .children) (t .children)
 
+-- well-formed as the type of a field with or without the ordered bit
+abbrev pub SomeOrder : {T : Type 0} → (Bool → T → Type 0) → FieldOver T → Type 0
+SomeOrder G f = (o : Bool) × G o (f .dataType)
+
+-- the types that a well-formed type holds are well-formed
+pub children-types : {T : Type 0} (G : Bool → T → Type 0) (k : Children) (ks : List (FieldOver T)) → WellFormedChildren G k ks → Every (SomeOrder G) ks
+children-types G (fields n) ks h = each-every _ (SomeOrder G) (λ s x w. (_, w .0 .dataType)) [] ks (h .1)
+children-types G keyAndValue ks h = each-every _ (SomeOrder G) (λ s x w. (false, w .1)) [] ks (h .1)
+children-types G counted ks h = each-every _ (SomeOrder G) (λ s x w. (_, w .0 .dataType)) [] ks h
+children-types G countedWithIds ks h = each-every _ (SomeOrder G) (λ s x w. (_, w .0 .dataType)) [] ks h
+
 abbrev pub WellFormedColumn : Field maxLevels → Type 0
 WellFormedColumn f = WellFormedField (WellFormedType maxLevels) f × (f .head .typeId ≡ 0)
 
 pub record WellFormedSchema (x : Schema) : Type 0 where
   pub metadata : Each WellFormedPair [] (x .metadata)
   pub columns : Each (λ seen k. WellFormedColumn k) [] (x .columns)
+
+pub column-types : (x : Schema) → WellFormedSchema x → Every (SomeOrder (WellFormedType maxLevels)) (x .columns)
+column-types x w = each-every (λ seen k. WellFormedColumn k) (SomeOrder (WellFormedType maxLevels)) (λ s f w. (f .head .dictIsOrdered, w .0 .dataType)) [] (x .columns) (w .columns)
 
 module _ (s : List ℕ) (limit : ℕ) (byte : (i : ℕ) → getD s i 0 < 256) where
   number-fits : (n : ℕ) (fits : ℕ → ℕ) (at : ℕ) → Holds (λ x e. fits x ≡ 0) (readNumber s limit n fits at)

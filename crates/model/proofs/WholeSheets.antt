@@ -1,21 +1,21 @@
 -- Whole sheets and trains: what is accepted is exactly the sheet, or the sheets, of the schemas read, and these read back.
-use Prim.Native.Nat.{ℕ, zero, suc, _+_, _*_, _≤_, _<_}
+use Prim.Native.Nat.{ℕ, zero, suc, _+_, _≤_, _<_}
 use native.Mathlib.Omega.{arith}
 use mathlib.Core.Path.{_≡_, refl, sym, ap, subst, _∙_}
-use mathlib.Core.List.{List, [], _∷_, _++_, append-assoc, append-nil}
-use mathlib.Core.Bool.{Bool, true, false}
+use mathlib.Core.List.{List, [], _∷_, _++_, append-nil}
+use mathlib.Core.Bool.{true, false}
 use lib.ListN.{length, drop, length-append, length-drop, drop-of-length-le}
 use lib.Seq.{drop-drop, drop-at, drop-length}
 use lib.Dec.{leb, leb→le}
-use borrow.Author.Tests.{leb-true, leb-false, le-leb, lt-leb}
+use borrow.Author.Tests.{leb-true, le-leb, lt-leb}
 use Rattle.model.specs.Numbers.{maxSheetBytes, maxSheets, tooManySheets}
-use Rattle.model.specs.Bytes.{Bytes, AreBytes, choose, Every}
+use Rattle.model.specs.Bytes.{Bytes, AreBytes, Every}
 use Rattle.model.specs.Tree.{Schema}
 use Rattle.model.specs.Sheet.{each, sheetBytes}
-use Rattle.model.specs.Read.{Step, got, bad, next, judged, unless, readSchema, readSheet, readSheets, readTrain}
+use Rattle.model.specs.Read.{got, bad, next, readSchema, readSheet, readSheets, readTrain}
 use Rattle.model.proofs.Gives.{choose-true, choose-false}
-use Rattle.model.proofs.Steps.{Holds, value, refusal, of-got, next-holds, holds-map, judged-holds, both-hold, choose-holds, unless-zero, next-got, judged-got, unless-got}
-use Rattle.model.proofs.Exact.{Spells, schema-holds}
+use Rattle.model.proofs.Steps.{Holds, value, refusal, of-got, next-holds, judged-holds, both-hold, choose-holds, unless-zero, next-got, judged-got, unless-got}
+use Rattle.model.proofs.Exact.{schema-holds}
 use Rattle.model.proofs.WellFormed.{WellFormedSchema, schema-well-formed}
 use Rattle.model.proofs.ReadsBack.{Lies, schema-reads}
 

@@ -1,13 +1,13 @@
 -- A call: what each operation answers to the bytes given, and what is left in the buffers.
-use Prim.Native.Nat.{ℕ, zero, suc, _+_, _*_}
-use mathlib.Core.List.{List, [], _∷_, _++_, map}
-use mathlib.Core.Bool.{Bool, true, false}
+use Prim.Native.Nat.{ℕ, _+_, _*_}
+use mathlib.Core.List.{[], _∷_, _++_, map}
+use mathlib.Core.Bool.{Bool}
 use lib.ListN.{length, drop, replicate}
-use lib.Dec.{leb, ltb}
+use lib.Dec.{ltb}
 use Rattle.model.specs.Numbers.{maxLevels, maxSheetBytes, workBytesPerSheetByte, accepted, answerTooLong, answerBufferShort, workBufferShort}
 use Rattle.model.specs.Bytes.{Bytes, choose, u16, flag}
 use Rattle.model.specs.Tree.{Schema}
-use Rattle.model.specs.Sheet.{each, withCount, sheetBytes}
+use Rattle.model.specs.Sheet.{withCount, sheetBytes}
 use Rattle.model.specs.Read.{Step, got, bad, readSheet, readTwo, readTrain}
 use Rattle.model.specs.Equal.{sameColumns}
 use Rattle.model.specs.Datatype.{isNested, equalsColumns, containsSchema}

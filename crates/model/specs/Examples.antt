@@ -1,13 +1,13 @@
 -- P1 to P12 of document 01, "Bench trials", as one list.
-use Prim.Native.Nat.{ℕ, zero, suc}
+use Prim.Native.Nat.{ℕ}
 use mathlib.Core.Path.{_≡_}
 use mathlib.Core.List.{List, [], _∷_, _++_}
-use mathlib.Core.Bool.{Bool, true, false}
+use mathlib.Core.Bool.{true, false}
 use Rattle.model.specs.Bytes.{Bytes}
 use Rattle.model.specs.Tree.{Schema}
 use Rattle.model.specs.Read.{Step, got, bad, readSheet}
 use Rattle.model.specs.Filter.{leafCount}
-use Rattle.model.specs.Call.{Answer, bytes, refused, andThen, mergeAnswer, projectAnswer, filterAnswer, normalizeAnswer, containsAnswer}
+use Rattle.model.specs.Call.{Answer, bytes, refused, mergeAnswer, projectAnswer, filterAnswer, normalizeAnswer, containsAnswer}
 
 -- Sheets, piece by piece, as bytes
 

@@ -2,13 +2,13 @@
 use Prim.Native.Nat.{ℕ, zero, suc}
 use mathlib.Core.Path.{_≡_}
 use mathlib.Core.List.{List, [], _∷_, _++_, map, List·Memᴰ}
-use mathlib.Core.Bool.{Bool, true, false}
+use mathlib.Core.Bool.{Bool, true}
 use lib.ListN.{length, take}
 use Rattle.model.specs.Numbers.{maxLevels, accepted}
 use Rattle.model.specs.Bytes.{Bytes, AreBytes, Metadata, Every}
-use Rattle.model.specs.Tree.{Head, DataTypeOver, FieldOver, DataType, Field, Schema, Null, List′, LargeList, Struct, Union}
+use Rattle.model.specs.Tree.{DataTypeOver, FieldOver, DataType, Schema, Null, List′, LargeList, Struct, Union}
 use Rattle.model.specs.Sheet.{each, fieldBytes, typeBytes}
-use Rattle.model.specs.Read.{Step, got, bad, readSheet}
+use Rattle.model.specs.Read.{got, readSheet}
 use Rattle.model.specs.Call.{Exit, mergeCall}
 
 -- the second list begins with the first, related element by element

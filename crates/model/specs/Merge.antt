@@ -1,11 +1,11 @@
 -- The merge: `Field::try_merge`, `UnionFields::try_merge`, `SchemaBuilder::try_merge` and `Schema::try_merge`.
-use Prim.Native.Nat.{ℕ, zero, suc, _+_}
+use Prim.Native.Nat.{ℕ, zero, suc}
 use mathlib.Core.List.{List, [], _∷_, _++_, map}
 use mathlib.Core.Bool.{Bool, true, false, not, _&&_, _||_, Bool·beq}
 use lib.Dec.{eqb}
 use Rattle.model.specs.Numbers.{maxLevels, schemaMetadataClash, orderedClash, fieldMetadataClash, typeClash, equalChildClash, typeIdClash}
 use Rattle.model.specs.Bytes.{Bytes, Metadata, choose, same, sameBytes, below, among}
-use Rattle.model.specs.Tree.{Head, DataTypeOver, FieldOver, DataType, Field, Schema, withChildren, Null, List′, LargeList, Struct, Union}
+use Rattle.model.specs.Tree.{DataTypeOver, FieldOver, DataType, Field, Schema, withChildren, Null, List′, LargeList, Struct, Union}
 use Rattle.model.specs.Read.{Step, got, bad, next}
 use Rattle.model.specs.Equal.{sameField, sameChild, sameType}
 

@@ -1,7 +1,6 @@
 -- The program merge: "reads a train from standard input and prints one line: number, space, place, space, the answer in lower-case hex or `-`".
 use Prim.Native.Nat.{ℕ, zero, suc, _+_, _*_, _-_, _/_, _%_}
-use mathlib.Core.List.{List, [], _∷_, _++_}
-use mathlib.Core.Bool.{Bool, true, false}
+use mathlib.Core.List.{[], _∷_, _++_}
 use lib.ListN.{length, take}
 use lib.Dec.{eqb, ltb}
 use Rattle.model.specs.Numbers.{maxProgramBytes, maxSheetBytes, workBytesPerSheetByte, accepted, inputTooLong}

@@ -7,7 +7,7 @@ use lib.Dec.{eqb, leb, ltb}
 use Rattle.model.specs.Numbers.{maxLevels, maxSheetBytes, maxSheets, maxTypeId, endsInside, sheetTooLong, tooDeep, malformed, notUtf8, keyNotAbove, idTooLarge, idRepeated, bytesLeft, tooManySheets}
 use Rattle.model.specs.Bytes.{Bytes, Metadata, choose, num, bit, below, among}
 use Rattle.model.specs.Text.{utf8}
-use Rattle.model.specs.Tree.{Head, DataTypeOver, FieldOver, DataType, Field, Schema, blank, Dictionary, lastCode, Params, items, timestamp, Children, fields, keyAndValue, counted, countedWithIds, layout, unit}
+use Rattle.model.specs.Tree.{DataType, Field, Schema, blank, Dictionary, lastCode, Params, items, timestamp, Children, fields, keyAndValue, counted, countedWithIds, layout, unit}
 
 -- A step: a value and the place after it, or a number and its place. "Places of reading count bytes of the input."
 
