@@ -1,28 +1,35 @@
--- The laws about the definitions. Those that callers cite are `pub mod`.
-pub mod Trials
+-- The laws about the definitions, each with what it leans on before it. docs/ARCHITECTURE.md says which law stands where.
+
+-- what the laws are made with
 pub mod Lists
-pub mod Gives
+pub mod ByteStrings
 pub mod Steps
+pub mod Gives
 pub mod Layouts
+pub mod Equivalences
+-- P1 to P12
+pub mod Trials
+-- reading and writing
 pub mod Exact
 pub mod WellFormed
 pub mod ReadsBack
-pub mod MergeKeeps
-pub mod ByteStrings
-pub mod GrownAt
-pub mod Grows
-pub mod Size
 pub mod WholeSheets
+-- calls
+pub mod Calls
+pub mod Refusals
+-- the other operations
 pub mod Look
 pub mod Projection
 pub mod OrderFlags
 pub mod Normalized
-pub mod Calls
-pub mod Refusals
-pub mod Demand3
-pub mod Demand3Instances
-pub mod LeafCount
 pub mod Flattened
-pub mod Equivalences
+pub mod LeafCount
+-- merging
+pub mod MergeKeeps
+pub mod Size
 pub mod NothingLost
 pub mod MergeAnswers
+pub mod GrownAt
+pub mod Grows
+pub mod Demand3
+pub mod Demand3Instances

@@ -2,29 +2,96 @@
 use Prim.Native.Nat.{ℕ, zero, suc, _+_}
 use mathlib.Core.Path.{_≡_, refl, sym, ap, subst, _∙_}
 use mathlib.Core.List.{List, [], _∷_, _++_, map}
-use mathlib.Core.Bool.{Bool, true, false, _||_, false≢true}
-use lib.Dec.{eqb}
+use mathlib.Core.Bool.{Bool, true, false, not, _||_, false≢true, or-true}
+use lib.ListN.{length}
+use lib.Dec.{eqb, ltb}
 use borrow.Author.Tests.{eqb-true}
 use Rattle.model.specs.Numbers.{maxLevels, maxSheetBytes, maxSheets, accepted, endsInside, sheetTooLong, tooDeep, malformed, notUtf8, keyNotAbove, idTooLarge, idRepeated, bytesLeft, tooManySheets}
 use Rattle.model.specs.Numbers.{schemaMetadataClash, orderedClash, fieldMetadataClash, typeClash, equalChildClash, typeIdClash}
-use Rattle.model.specs.Bytes.{Bytes, Metadata, choose, all, num, bit, among}
+use Rattle.model.specs.Numbers.{oddList, indexOutOfBounds, indexRepeated, maskLength, separatorNotUtf8, noSuchColumn, moreFieldsThanIds, moreIdsThanFields, tooManyFields, answerTooLong, answerBufferShort, workBufferShort}
+use Rattle.model.specs.Bytes.{Bytes, Metadata, Found, found, missing, choose, all, num, bit, among}
 use Rattle.model.specs.Tree.{DataTypeOver, FieldOver, DataType, Field, Schema, Params, items, timestamp, Children, fields, keyAndValue, counted, countedWithIds, layout}
-use Rattle.model.specs.Read.{Step, got, bad, Reader, next, judged, ifSet, unless, _then_, atLeast, isText, mapFits, idFits, paramFits, readMany, readItem, readNumber, readText, readPair, readList, readMetadata, readField, readBareType, readUnionChild, readChildren, readZone, readParams, readType, readColumn, readSchema, shifted, readSheets, readTrain}
+use Rattle.model.specs.Read.{Step, got, bad, Reader, next, judged, ifSet, unless, _then_, atLeast, isText, mapFits, idFits, paramFits, readMany, readItem, readNumber, readText, readPair, readList, readMetadata, readField, readBareType, readUnionChild, readChildren, readZone, readParams, readType, readColumn, readSchema, readSheet, shifted, readTwo, readSheets, readTrain}
 use Rattle.model.specs.Merge.{Merged, done, clash, _>>=_, need, pour, mergePair, mergeMetadata, mergeByName, mergeChild, mergeField, mergeEach, mergeSameCode, mergeType, mergeSchema, placed, mergeFrom, tryMerge}
-use Rattle.model.specs.Call.{Answer, bytes, refused, andThen, sheetAnswer, mergeAnswer}
+use Rattle.model.specs.Schema.{indices, indexFits, selected, project, normalize, ifFound, indexOf}
+use Rattle.model.specs.Filter.{filterLeaves}
+use Rattle.model.specs.Unions.{tryNew, tryFromFields}
+use Rattle.model.specs.Call.{Answer, bytes, refused, andThen, sheetAnswer, yesNo, mergeAnswer, projectAnswer, filterAnswer, normalizeAnswer, containsAnswer, equalsDatatypeAnswer, equalAnswer, isNestedAnswer, indexOfAnswer, flattenedFieldsAnswer, tryNewAnswer, tryFromFieldsAnswer, Exit, zeros, refusal, acceptance, settled, call}
 use Rattle.model.proofs.Lists.{and-true}
 use Rattle.model.proofs.Calls.{Numbered, answered, refusing}
 
--- The number of a refusal, if there is one, has P: of a verdict, a step, a merge and an answer
+-- The numbers of document 01's table, by what they belong to
 
+-- the id of a union child
+abbrev pub idNumbers : List ℕ
+idNumbers = idTooLarge ∷ idRepeated ∷ []
+
+-- a sheet, whatever comes after it
+abbrev pub readingNumbers : List ℕ
+readingNumbers = endsInside ∷ sheetTooLong ∷ tooDeep ∷ malformed ∷ notUtf8 ∷ keyNotAbove ∷ idNumbers
+
+-- a single sheet: all that containment, both equalities, `is_nested` and `flattened_fields` refuse with
+abbrev pub sheetNumbers : List ℕ
+sheetNumbers = readingNumbers ++ (bytesLeft ∷ [])
+
+abbrev pub trainNumbers : List ℕ
+trainNumbers = readingNumbers ++ (tooManySheets ∷ [])
+
+-- two fields
+abbrev pub fieldNumbers : List ℕ
+fieldNumbers = orderedClash ∷ fieldMetadataClash ∷ typeClash ∷ equalChildClash ∷ typeIdClash ∷ []
+
+-- two schemas
+abbrev pub clashNumbers : List ℕ
+clashNumbers = schemaMetadataClash ∷ fieldNumbers
+
+abbrev pub mergeNumbers : List ℕ
+mergeNumbers = trainNumbers ++ clashNumbers
+
+-- "repeated (strict only)"
+abbrev pub repeatNumbers : Bool → List ℕ
+repeatNumbers true = indexRepeated ∷ []
+repeatNumbers false = []
+
+-- an index list, strict or not
+abbrev pub listNumbers : Bool → List ℕ
+listNumbers strict = oddList ∷ indexOutOfBounds ∷ repeatNumbers strict
+
+abbrev pub projectNumbers : Bool → List ℕ
+projectNumbers strict = sheetNumbers ++ listNumbers strict
+
+abbrev pub filterNumbers : List ℕ
+filterNumbers = sheetNumbers ++ (maskLength ∷ [])
+
+abbrev pub normalizeNumbers : List ℕ
+normalizeNumbers = sheetNumbers ++ (separatorNotUtf8 ∷ [])
+
+abbrev pub indexOfNumbers : List ℕ
+indexOfNumbers = sheetNumbers ++ (noSuchColumn ∷ [])
+
+abbrev pub tryNewNumbers : List ℕ
+tryNewNumbers = idNumbers ++ (moreFieldsThanIds ∷ moreIdsThanFields ∷ [])
+
+abbrev pub tryFromFieldsNumbers : List ℕ
+tryFromFieldsNumbers = tooManyFields ∷ []
+
+-- any call, whatever its operation
+abbrev pub callNumbers : List ℕ
+callNumbers = accepted ∷ workBufferShort ∷ answerTooLong ∷ answerBufferShort ∷ []
+
+-- P of the number of a refusal, if there is one
+
+-- of a verdict
 pub data Verdict (P : ℕ → Type 0) : ℕ → Type 0 where
   passes : Verdict P 0
   refuses : {n : ℕ} → P n → Verdict P n
 
+-- of a step of reading
 pub data Refuses {A : Type 0} (P : ℕ → Type 0) : Step A → Type 0 where
   gives : {a : A} {e : ℕ} → Refuses P (got a e)
   stops : {n p : ℕ} → P n → Refuses P (bad n p)
 
+-- of a merge
 pub data Clashes {A : Type 0} (P : ℕ → Type 0) : Merged A → Type 0 where
   merges : {a : A} → Clashes P (done a)
   clashes : {n : ℕ} → P n → Clashes P (clash n)
@@ -45,7 +112,7 @@ answers-numbered numbers h (refusesBy k) = refusing λ e. false≢true (sym h �
 
 -- More numbers than before
 
--- a number of the smaller list is one of the larger
+-- a number of the smaller list is one of the larger, if all of the smaller list's are
 pub among-more : (fewer more : List ℕ) → all (λ n. among n more) fewer ≡ true → (n : ℕ) → Among fewer n → Among more n
 unfolding among all
 among-more [] more h n k = absurd (false≢true k)
@@ -57,6 +124,13 @@ among-more (x ∷ fewer) more h n k =
     go true e k p r = subst (λ y. Among more y) (sym (eqb-true n x e)) p
     go false e k p r = r k
 
+-- and so is one behind others, whatever the list is
+pub among-behind : (front numbers : List ℕ) (n : ℕ) → Among numbers n → Among (front ++ numbers) n
+unfolding among
+among-behind [] numbers n h = h
+among-behind (x ∷ front) numbers n h = ap (λ b. eqb n x || b) (among-behind front numbers n h) ∙ or-true (eqb n x)
+
+-- a refusal with some numbers is one with those and others
 module _ {P Q : ℕ → Type 0} (wider : (n : ℕ) → P n → Q n) where
   pub verdict-map : {n : ℕ} → Verdict P n → Verdict Q n
   verdict-map passes = passes
@@ -70,7 +144,13 @@ module _ {P Q : ℕ → Type 0} (wider : (n : ℕ) → P n → Q n) where
   clashes-map merges = merges
   clashes-map (clashes h) = clashes (wider _ h)
 
--- A law for each combinator
+-- A law for each combinator: its number is that of one of its parts
+
+-- what holds of both branches, whichever is taken
+pub choose-either : {A : Type 0} (Q : A → Type 0) (b : Bool) (x y : Unit {0} → A) → Q (x tt) → Q (y tt) → Q (choose b x y)
+unfolding choose
+choose-either Q true x y h k = h
+choose-either Q false x y h k = k
 
 module _ {P : ℕ → Type 0} where
   pub unless-verdict : (b : Bool) (n : ℕ) → P n → Verdict P (unless b n)
@@ -100,11 +180,6 @@ module _ {P : ℕ → Type 0} where
   set-refuses true r a place h = h
   set-refuses false r a place h = gives
 
-  pub choose-refuses : {A : Type 0} (b : Bool) (x y : Unit {0} → Step A) → Refuses P (x tt) → Refuses P (y tt) → Refuses P (choose b x y)
-  unfolding choose
-  choose-refuses true x y h k = h
-  choose-refuses false x y h k = k
-
   pub many-refuses : {A : Type 0} (one : List A → Reader A) → ((seen : List A) (place : ℕ) → Refuses P (one seen place))
       → (n : ℕ) (seen : List A) (place : ℕ) → Refuses P (readMany n one seen place)
   unfolding readMany
@@ -131,18 +206,14 @@ module _ {P : ℕ → Type 0} where
   need-clashes true n a h = merges
   need-clashes false n a h = clashes h
 
-  pub choose-clashes : {A : Type 0} (b : Bool) (x y : Unit {0} → Merged A) → Clashes P (x tt) → Clashes P (y tt) → Clashes P (choose b x y)
-  unfolding choose
-  choose-clashes true x y h k = h
-  choose-clashes false x y h k = k
-
   pub pour-clashes : {A B : Type 0} (put : A → B → Merged A) → ((a : A) (x : B) → Clashes P (put a x)) → (a : A) (xs : List B) → Clashes P (pour put a xs)
   unfolding pour
   pour-clashes put h a [] = merges
   pour-clashes put h a (x ∷ xs) = bind-clashes (h a x) λ b. pour-clashes put h b xs
 
 module _ {numbers : List ℕ} where
-  pub then-answers : {A : Type 0} {r : Step A} {f : A → Answer} → Refuses (Among numbers) r → ((a : A) → AnswersBy numbers (f a)) → AnswersBy numbers (andThen r f)
+  pub then-answers : {A : Type 0} {r : Step A} {f : A → Answer} → Refuses (Among numbers) r → ((a : A) → AnswersBy numbers (f a))
+      → AnswersBy numbers (andThen r f)
   unfolding andThen
   then-answers (gives {a}) k = k a
   then-answers (stops h) k = refusesBy h
@@ -152,20 +223,6 @@ module _ {numbers : List ℕ} where
   sheet-answers h = then-answers h λ x. answers
 
 -- Reading
-
--- what an id is refused with
-abbrev pub idNumbers : List ℕ
-idNumbers = idTooLarge ∷ idRepeated ∷ []
-
--- what a sheet is refused with while it is read, whatever comes after it
-abbrev pub readingNumbers : List ℕ
-readingNumbers = endsInside ∷ sheetTooLong ∷ tooDeep ∷ malformed ∷ notUtf8 ∷ keyNotAbove ∷ idNumbers
-
-abbrev pub sheetNumbers : List ℕ
-sheetNumbers = readingNumbers ++ (bytesLeft ∷ [])
-
-abbrev pub trainNumbers : List ℕ
-trainNumbers = readingNumbers ++ (tooManySheets ∷ [])
 
 abbrev Reading : ℕ → Type 0
 Reading n = Among readingNumbers n
@@ -217,8 +274,8 @@ module _ (s : Bytes) (limit : ℕ) where
     unfolding readField among
     field-refuses i place =
         next-refuses (number-refuses 1 (mapFits l) (λ m. then-verdict (unless-verdict _ tooDeep refl) (unless-verdict _ malformed refl)) place) λ m e₁.
-        next-refuses (set-refuses (bit 2 m) (readText s limit 1) [] e₁ (text-refuses 1 e₁)) λ n e₂.
-        next-refuses (set-refuses (bit 3 m) (readMetadata s limit) [] e₂ (metadata-refuses e₂)) λ d e₃.
+        next-refuses (set-refuses _ _ _ e₁ (text-refuses 1 e₁)) λ n e₂.
+        next-refuses (set-refuses _ _ _ e₂ (metadata-refuses e₂)) λ d e₃.
         next-refuses (type-refuses (bit 1 m) e₃) λ t e. gives
 
     bare-refuses : (place : ℕ) → Refuses Reading (readBareType s limit l readType place)
@@ -254,7 +311,7 @@ module _ (s : Bytes) (limit : ℕ) where
   params-refuse timestamp place =
       next-refuses (param-refuses _ place) λ u m₁.
       next-refuses (item-refuses 1 _ (λ b. unless-verdict _ malformed refl) m₁) λ m m₂.
-      next-refuses (set-refuses (bit 0 (num m)) (readZone s limit) [] m₂ (zone-refuses m₂)) λ z e. gives
+      next-refuses (set-refuses _ _ _ m₂ (zone-refuses m₂)) λ z e. gives
 
   type-refuses : (l : ℕ) (ordered : Bool) (place : ℕ) → Refuses Reading (readType s limit l ordered place)
   unfolding readType among
@@ -273,14 +330,26 @@ module _ (s : Bytes) (limit : ℕ) where
   unfolding readSchema among
   schema-refuses place =
       next-refuses (number-refuses 1 _ (λ m. unless-verdict _ malformed refl) place) λ m e₁.
-      next-refuses (set-refuses (bit 0 m) (readMetadata s limit) [] e₁ (metadata-refuses e₁)) λ d e₂.
-      next-refuses (set-refuses (bit 1 m) _ [] e₂ (list-refuses 1 _ (λ seen p. column-refuses p) e₂)) λ cs e. gives
+      next-refuses (set-refuses _ _ _ e₁ (metadata-refuses e₁)) λ d e₂.
+      next-refuses (set-refuses _ _ _ e₂ (list-refuses 1 _ (λ seen p. column-refuses p) e₂)) λ cs e. gives
+
+-- a single sheet is refused with 1 to 9
+pub sheet-refuses : (sheet : Bytes) → Refuses (Among sheetNumbers) (readSheet sheet)
+unfolding readSheet among all
+sheet-refuses sheet =
+    next-refuses (refuses-map (among-more readingNumbers sheetNumbers refl) (schema-refuses sheet maxSheetBytes 0)) λ x e.
+    judged-refuses e x e (unless-verdict _ bytesLeft refl)
+
+-- and two sheets are too
+pub two-refuse : (sheet other : Bytes) → Refuses (Among sheetNumbers) (readTwo sheet other)
+unfolding readTwo
+two-refuse sheet other = next-refuses (sheet-refuses sheet) λ x e. next-refuses (shifted-refuses (length sheet) (sheet-refuses other)) λ y e. gives
 
 sheets-refuse : (s : Bytes) (n place : ℕ) → Refuses (Among trainNumbers) (readSheets s n place)
 unfolding readSheets among all
-sheets-refuse s zero place = choose-refuses _ _ _ gives (stops refl)
+sheets-refuse s zero place = choose-either (Refuses _) _ _ _ gives (stops refl)
 sheets-refuse s (suc n) place =
-    choose-refuses _ _ _ gives
+    choose-either (Refuses _) _ _ _ gives
     (next-refuses (refuses-map (among-more readingNumbers trainNumbers refl) (schema-refuses s (place + maxSheetBytes) place)) λ x e.
     next-refuses (sheets-refuse s n e) λ xs e. gives)
 
@@ -291,16 +360,6 @@ train-refuses train = sheets-refuse train maxSheets 0
 
 -- Merging
 
--- what two fields clash with
-abbrev pub fieldNumbers : List ℕ
-fieldNumbers = orderedClash ∷ fieldMetadataClash ∷ typeClash ∷ equalChildClash ∷ typeIdClash ∷ []
-
-abbrev pub clashNumbers : List ℕ
-clashNumbers = schemaMetadataClash ∷ fieldNumbers
-
-abbrev pub mergeNumbers : List ℕ
-mergeNumbers = trainNumbers ++ clashNumbers
-
 abbrev Clashing : ℕ → Type 0
 Clashing n = Among fieldNumbers n
 
@@ -309,8 +368,8 @@ module _ {P : ℕ → Type 0} (n : ℕ) (h : P n) where
   unfolding mergePair
   merge-pair-clashes [] p = merges
   merge-pair-clashes (q ∷ qs) p =
-      choose-clashes _ _ _ (bind-clashes (merge-pair-clashes qs p) λ r. merges)
-      (choose-clashes _ _ _ merges (need-clashes _ n (q ∷ qs) h))
+      choose-either (Clashes _) _ _ _ (bind-clashes (merge-pair-clashes qs p) λ r. merges)
+      (choose-either (Clashes _) _ _ _ merges (need-clashes _ n (q ∷ qs) h))
 
   merge-metadata-clashes : (old new : Metadata) → Clashes P (mergeMetadata n old new)
   unfolding mergeMetadata
@@ -322,13 +381,13 @@ module _ {T : Type 0} where
   unfolding mergeByName
   merge-by-name-clashes merge h [] f = merges
   merge-by-name-clashes merge h (g ∷ gs) f =
-      choose-clashes _ _ _ (bind-clashes (h g f) λ r. merges) (bind-clashes (merge-by-name-clashes merge h gs f) λ r. merges)
+      choose-either (Clashes _) _ _ _ (bind-clashes (h g f) λ r. merges) (bind-clashes (merge-by-name-clashes merge h gs f) λ r. merges)
 
   merge-child-clashes : (eq : T → T → Bool) (gs : List (FieldOver T)) (f : FieldOver T) → Clashes Clashing (mergeChild eq gs f)
   unfolding mergeChild among
   merge-child-clashes eq [] f = merges
   merge-child-clashes eq (g ∷ gs) f =
-      choose-clashes _ _ _ (need-clashes _ equalChildClash (g ∷ gs) refl) (bind-clashes (merge-child-clashes eq gs f) λ r. merges)
+      choose-either (Clashes _) _ _ _ (need-clashes _ equalChildClash (g ∷ gs) refl) (bind-clashes (merge-child-clashes eq gs f) λ r. merges)
 
 module _ {T : Type 0} (merge : T → T → Merged T) (isNull : T → Bool) (h : (a b : T) → Clashes Clashing (merge a b)) where
   merge-field-clashes : (f g : FieldOver T) → Clashes Clashing (mergeField merge isNull f g)
@@ -347,11 +406,11 @@ module _ {T : Type 0} (merge : T → T → Merged T) (isNull : T → Bool) (h : 
   merge-same-code-clashes : (eq : T → T → Bool) (a b : DataTypeOver (FieldOver T)) → Clashes Clashing (mergeSameCode merge isNull eq a b)
   unfolding mergeSameCode among
   merge-same-code-clashes eq a b =
-      choose-clashes _ _ _
+      choose-either (Clashes _) _ _ _
       (bind-clashes (pour-clashes _ (merge-by-name-clashes _ merge-field-clashes) [] (a .children ++ b .children)) λ ks. merges)
-      (choose-clashes _ _ _
+      (choose-either (Clashes _) _ _ _
       (bind-clashes (pour-clashes _ (merge-child-clashes eq) (a .children) (b .children)) λ ks. need-clashes _ typeIdClash _ refl)
-      (choose-clashes _ _ _
+      (choose-either (Clashes _) _ _ _
       (bind-clashes (merge-each-clashes (a .children) (b .children)) λ ks. merges)
       (need-clashes _ typeClash a refl)))
 
@@ -359,9 +418,9 @@ merge-type-clashes : (l : ℕ) (a b : DataType l) → Clashes Clashing (mergeTyp
 unfolding mergeType among
 merge-type-clashes zero a b = absurd a
 merge-type-clashes (suc l) a b =
-    choose-clashes _ _ _ merges
-    (choose-clashes _ _ _ merges
-    (choose-clashes _ _ _ (clashes refl)
+    choose-either (Clashes _) _ _ _ merges
+    (choose-either (Clashes _) _ _ _ merges
+    (choose-either (Clashes _) _ _ _ (clashes refl)
     (merge-same-code-clashes (λ x y. mergeType l x y) _ (λ x y. merge-type-clashes l x y) _ a b)))
 
 -- two schemas clash with 20 to 25
@@ -382,7 +441,46 @@ pub try-merge-refuses : (xs : List Schema) → Refuses (Among clashNumbers) (try
 unfolding tryMerge
 try-merge-refuses xs = merge-from-refuses 0 _ xs
 
--- The answers
+-- Index lists
+
+indices-refuse : (strict : Bool) (list : Bytes) → Refuses (Among (listNumbers strict)) (indices list)
+unfolding indices among
+indices-refuse strict [] = gives
+indices-refuse strict (a ∷ []) = stops refl
+indices-refuse strict (a ∷ b ∷ list) = next-refuses (indices-refuse strict list) λ is e. gives
+
+index-fits : (strict : Bool) (count : ℕ) (seen : List ℕ) (i : ℕ) → Verdict (Among (listNumbers strict)) (indexFits strict count seen i)
+unfolding indexFits among unless
+index-fits true count seen i = then-verdict (unless-verdict (ltb i count) indexOutOfBounds refl) (unless-verdict (not (among i seen)) indexRepeated refl)
+index-fits false count seen i = then-verdict (unless-verdict (ltb i count) indexOutOfBounds refl) passes
+
+selected-refuses : {A : Type 0} (strict : Bool) (xs : List A) (is seen : List ℕ) (place : ℕ)
+    → Refuses (Among (listNumbers strict)) (selected strict xs is seen place)
+unfolding selected
+selected-refuses strict xs [] seen place = gives
+selected-refuses strict xs (i ∷ is) seen place =
+    next-refuses (judged-refuses place _ _ (index-fits strict (length xs) seen i)) λ x e.
+    next-refuses (selected-refuses strict xs is (i ∷ seen) e) λ rest e. gives
+
+-- a projection refuses its list with 17 and 10, and a strict one with 11 too
+pub project-list-refuses : (strict : Bool) (x : Schema) (list : Bytes) → Refuses (Among (listNumbers strict)) (project strict x list)
+unfolding project
+project-list-refuses strict x list =
+    next-refuses (indices-refuse strict list) λ is e.
+    next-refuses (selected-refuses strict (x .columns) is [] 0) λ cs e. gives
+
+-- Union numbering
+
+try-new-step : (ids : Bytes) (count : ℕ) (seen : List ℕ) (place : ℕ) → Refuses (Among tryNewNumbers) (tryNew ids count seen place)
+unfolding tryNew among all
+try-new-step [] zero seen place = gives
+try-new-step [] (suc n) seen place = stops refl
+try-new-step (i ∷ ids) zero seen place = stops refl
+try-new-step (i ∷ ids) (suc n) seen place =
+    next-refuses (judged-refuses place i (suc place) (verdict-map (among-more idNumbers tryNewNumbers refl) (id-fits seen i))) λ i e.
+    next-refuses (try-new-step ids n (i ∷ seen) e) λ rest e. gives
+
+-- The answers: in each law, the numbers that the operation may refuse with
 
 -- a merge is refused with the numbers of reading a train and of a clash
 pub merge-refuses : (train : Bytes) → AnswersBy mergeNumbers (mergeAnswer train)
@@ -391,7 +489,134 @@ merge-refuses train =
     then-answers (refuses-map (among-more trainNumbers mergeNumbers refl) (train-refuses train)) λ xs.
     sheet-answers (refuses-map (among-more clashNumbers mergeNumbers refl) (try-merge-refuses xs))
 
--- a merge never refuses with 0
+-- a projection: those of a sheet and of its list
+pub project-refuses : (strict : Bool) (sheet list : Bytes) → AnswersBy (projectNumbers strict) (projectAnswer strict sheet list)
+unfolding projectAnswer among all
+project-refuses strict sheet list =
+    then-answers (refuses-map (among-more sheetNumbers (projectNumbers strict) refl) (sheet-refuses sheet)) λ x.
+    sheet-answers (refuses-map (among-behind sheetNumbers (listNumbers strict)) (project-list-refuses strict x list))
+
+-- a leaf filter: those of a sheet, and 12
+pub filter-refuses : (sheet mask : Bytes) → AnswersBy filterNumbers (filterAnswer sheet mask)
+unfolding filterAnswer filterLeaves among all
+filter-refuses sheet mask =
+    then-answers (refuses-map (among-more sheetNumbers filterNumbers refl) (sheet-refuses sheet)) λ x.
+    sheet-answers (judged-refuses 0 _ 0 (unless-verdict _ maskLength refl))
+
+-- normalising: those of a sheet, and 18
+pub normalize-refuses : (sheet separator : Bytes) (maxLevel : ℕ) → AnswersBy normalizeNumbers (normalizeAnswer sheet separator maxLevel)
+unfolding normalizeAnswer normalize among all
+normalize-refuses sheet separator maxLevel =
+    then-answers (refuses-map (among-more sheetNumbers normalizeNumbers refl) (sheet-refuses sheet)) λ x.
+    sheet-answers (judged-refuses 0 _ 0 (unless-verdict _ separatorNotUtf8 refl))
+
+-- containment and both equalities: those of a sheet
+pub contains-refuses : (sheet other : Bytes) → AnswersBy sheetNumbers (containsAnswer sheet other)
+unfolding containsAnswer yesNo
+contains-refuses sheet other = then-answers (two-refuse sheet other) λ p. answers
+
+pub equals-datatype-refuses : (sheet other : Bytes) → AnswersBy sheetNumbers (equalsDatatypeAnswer sheet other)
+unfolding equalsDatatypeAnswer yesNo
+equals-datatype-refuses sheet other = then-answers (two-refuse sheet other) λ p. answers
+
+pub equal-refuses : (sheet other : Bytes) → AnswersBy sheetNumbers (equalAnswer sheet other)
+unfolding equalAnswer yesNo
+equal-refuses sheet other = then-answers (two-refuse sheet other) λ p. answers
+
+-- `is_nested`: those of a sheet
+pub is-nested-refuses : (sheet : Bytes) → AnswersBy sheetNumbers (isNestedAnswer sheet)
+unfolding isNestedAnswer
+is-nested-refuses sheet = then-answers (sheet-refuses sheet) λ x. answers
+
+found-refuses : (p : Found) → Refuses (Among indexOfNumbers) (ifFound p)
+unfolding ifFound among
+found-refuses (found i) = gives
+found-refuses missing = stops refl
+
+-- `index_of`: those of a sheet, and 13
+pub index-of-refuses : (sheet name : Bytes) → AnswersBy indexOfNumbers (indexOfAnswer sheet name)
+unfolding indexOfAnswer indexOf among all
+index-of-refuses sheet name =
+    then-answers (refuses-map (among-more sheetNumbers indexOfNumbers refl) (sheet-refuses sheet)) λ x.
+    then-answers (found-refuses _) λ b. answers
+
+-- `flattened_fields`: those of a sheet
+pub flattened-fields-refuses : (sheet : Bytes) → AnswersBy sheetNumbers (flattenedFieldsAnswer sheet)
+unfolding flattenedFieldsAnswer
+flattened-fields-refuses sheet = then-answers (sheet-refuses sheet) λ x. answers
+
+-- `try_new`: 6, 7, 14 and 15
+pub try-new-refuses : (ids : Bytes) (count : ℕ) → AnswersBy tryNewNumbers (tryNewAnswer ids count)
+unfolding tryNewAnswer
+try-new-refuses ids count = then-answers (try-new-step ids count [] 0) λ b. answers
+
+-- `try_from_fields`: 16
+pub try-from-fields-refuses : (count : ℕ) → AnswersBy tryFromFieldsNumbers (tryFromFieldsAnswer count)
+unfolding tryFromFieldsAnswer tryFromFields among
+try-from-fields-refuses count = then-answers (choose-either (Refuses _) _ _ _ gives (stops refl)) λ b. answers
+
+-- So 0 means accepted: no operation refuses with it, whatever it is given
+
 pub merge-numbered : (train : Bytes) → Numbered (mergeAnswer train)
 unfolding among
 merge-numbered train = answers-numbered mergeNumbers refl (merge-refuses train)
+
+pub project-numbered : (strict : Bool) (sheet list : Bytes) → Numbered (projectAnswer strict sheet list)
+unfolding among
+project-numbered true sheet list = answers-numbered (projectNumbers true) refl (project-refuses true sheet list)
+project-numbered false sheet list = answers-numbered (projectNumbers false) refl (project-refuses false sheet list)
+
+pub filter-numbered : (sheet mask : Bytes) → Numbered (filterAnswer sheet mask)
+unfolding among
+filter-numbered sheet mask = answers-numbered filterNumbers refl (filter-refuses sheet mask)
+
+pub normalize-numbered : (sheet separator : Bytes) (maxLevel : ℕ) → Numbered (normalizeAnswer sheet separator maxLevel)
+unfolding among
+normalize-numbered sheet separator maxLevel = answers-numbered normalizeNumbers refl (normalize-refuses sheet separator maxLevel)
+
+pub contains-numbered : (sheet other : Bytes) → Numbered (containsAnswer sheet other)
+unfolding among
+contains-numbered sheet other = answers-numbered sheetNumbers refl (contains-refuses sheet other)
+
+pub equals-datatype-numbered : (sheet other : Bytes) → Numbered (equalsDatatypeAnswer sheet other)
+unfolding among
+equals-datatype-numbered sheet other = answers-numbered sheetNumbers refl (equals-datatype-refuses sheet other)
+
+pub equal-numbered : (sheet other : Bytes) → Numbered (equalAnswer sheet other)
+unfolding among
+equal-numbered sheet other = answers-numbered sheetNumbers refl (equal-refuses sheet other)
+
+pub is-nested-numbered : (sheet : Bytes) → Numbered (isNestedAnswer sheet)
+unfolding among
+is-nested-numbered sheet = answers-numbered sheetNumbers refl (is-nested-refuses sheet)
+
+pub index-of-numbered : (sheet name : Bytes) → Numbered (indexOfAnswer sheet name)
+unfolding among
+index-of-numbered sheet name = answers-numbered indexOfNumbers refl (index-of-refuses sheet name)
+
+pub flattened-fields-numbered : (sheet : Bytes) → Numbered (flattenedFieldsAnswer sheet)
+unfolding among
+flattened-fields-numbered sheet = answers-numbered sheetNumbers refl (flattened-fields-refuses sheet)
+
+pub try-new-numbered : (ids : Bytes) (count : ℕ) → Numbered (tryNewAnswer ids count)
+unfolding among
+try-new-numbered ids count = answers-numbered tryNewNumbers refl (try-new-refuses ids count)
+
+pub try-from-fields-numbered : (count : ℕ) → Numbered (tryFromFieldsAnswer count)
+unfolding among
+try-from-fields-numbered count = answers-numbered tryFromFieldsNumbers refl (try-from-fields-refuses count)
+
+-- The calls
+
+abbrev NumberAmong : List ℕ → Exit → Type 0
+NumberAmong numbers e = Among (callNumbers ++ numbers) (e .number)
+
+-- every number that a call gives is 0, 32, 30, 31 or one of its operation's own
+pub call-number : (numbers : List ℕ) (given : ℕ) {outcome : Answer} (work answer : Bytes) → AnswersBy numbers outcome
+    → Among (callNumbers ++ numbers) (call given outcome work answer .number)
+unfolding call settled acceptance refusal among
+call-number numbers given work answer h = choose-either (NumberAmong numbers) _ _ _ refl (go h)
+  where
+    go : {o : Answer} → AnswersBy numbers o → NumberAmong numbers (settled o (zeros (length work)) answer)
+    go answers = choose-either (NumberAmong numbers) _ _ _ refl (choose-either (NumberAmong numbers) _ _ _ refl refl)
+    go (refusesBy k) = among-behind callNumbers numbers _ k
