@@ -22,7 +22,7 @@ use Rattle.model.proofs.Gives.{placed-holds}
 use Rattle.model.proofs.Steps.{Holds, value, of-got, next-holds, holds-map, got-inv, next-inv}
 use Rattle.model.proofs.WellFormed.{WellFormedParams, WellFormedChildren, WellFormedType, WellFormedSchema, SomeOrder, children-types, column-types}
 use Rattle.model.proofs.MergeKeeps.{empty-well-formed, merge-keeps}
-use Rattle.model.proofs.WholeSheets.{Fits, sheet-exact, sheet-reads, train-reads, train-refuses}
+use Rattle.model.proofs.WholeSheets.{Fits, sheet-exact, sheet-reads, train-reads, train-too-many}
 use Rattle.model.proofs.Grows.{Apart, Tidy, Standing, SchemaGrew, schema-grows, schema-refl, schema-trans, schema-grown}
 use Rattle.model.proofs.Calls.{Accepted, accepted-call, call-accepted, then-inv, answer-then, bytes-inv}
 use Rattle.model.proofs.Refusals.{merge-numbered}
@@ -131,7 +131,7 @@ train-count xs ys e f h = go (leb (length xs) maxSheets) refl
     go : (t : Bool) → leb (length xs) maxSheets ≡ t → length xs ≤ maxSheets
     go true p = leb-true _ _ p
     go false p =
-        let (q, r) = train-refuses xs f (leb-false (length xs) maxSheets p) in
+        let (q, r) = train-too-many xs f (leb-false (length xs) maxSheets p) in
         let w : got ys e ≡ bad 33 q = sym h ∙ r in
         let z : _≡_ {A = ℕ} 0 1 = cc in absurd (omega arith)
 

@@ -2,6 +2,7 @@
 
 -- what the laws are made with
 pub mod Lists
+pub mod Computed
 pub mod ByteStrings
 pub mod Steps
 pub mod Gives
@@ -10,6 +11,7 @@ pub mod Equivalences
 -- P1 to P12
 pub mod Trials
 -- reading and writing
+pub mod Items
 pub mod Exact
 pub mod WellFormed
 pub mod ReadsBack

@@ -522,6 +522,25 @@ merge-from-pour i x (y ∷ ys) z e h = go (mergeSchema x y) h λ w. merge-from-p
     go (done w) h rest = rest w h
     go (clash n) h rest = let q : _≡_ {A = ℕ} 0 1 = cc in absurd (omega arith)
 
+-- Where two fields are merged, a Null of either makes the column nullable; only a Null that nothing was merged with stays as it is (P2).
+pub null-makes-nullable : {T : Type 0} (merge : T → T → Merged T) (isNull : T → Bool) (f g : FieldOver T) → (isNull (f .dataType) || isNull (g .dataType)) ≡ true
+    → Gives (λ h. h .head .nullable ≡ true) (mergeField merge isNull f g)
+unfolding mergeField
+null-makes-nullable merge isNull f g n =
+    bind-gives _ (any-gives _) λ u h.
+    bind-gives _ (any-gives _) λ m k.
+    bind-gives _ (any-gives _) λ t q.
+    value (either (f .head .nullable) (g .head .nullable) (isNull (f .dataType)) (isNull (g .dataType)) n)
+  where
+    any-gives : {A : Type 0} (r : Merged A) → Gives (λ a. Unit {0}) r
+    any-gives (done a) = value tt
+    any-gives (clash m) = refusal
+
+    either : (a b c d : Bool) → (c || d) ≡ true → (a || b || c || d) ≡ true
+    either true b c d h = refl
+    either false true c d h = refl
+    either false false c d h = h
+
 -- In an accepted merge nothing is lost: each schema given is held in the answer, which has no more columns than were given.
 pub nothing-lost : (xs : List Schema) (z : Schema) (e : ℕ) → Every OneChildEach xs → tryMerge xs ≡ got z e
     → Every (λ x. HeldSchema x z) xs × (length (z .columns) ≤ columnsGiven xs)

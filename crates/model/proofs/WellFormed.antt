@@ -7,7 +7,7 @@ use lib.ListN.{length, getD}
 use Rattle.model.specs.Numbers.{maxLevels, keyNotAbove}
 use Rattle.model.specs.Bytes.{Bytes, Metadata, Every, num, bit}
 use Rattle.model.specs.Text.{utf8, utf8From}
-use Rattle.model.specs.Tree.{FieldOver, DataType, Field, Schema, blank, Params, items, timestamp, Children, fields, keyAndValue, counted, countedWithIds, layout, unit}
+use Rattle.model.specs.Tree.{FieldOver, DataType, Field, Schema, blank, Params, items, timestamp, Children, fields, keyAndValue, counted, countedWithIds, layout, unit, zoneMap}
 use Rattle.model.specs.Read.{Reader, ifSet, unless, atMost, isText, mapFits, codeFits, idFits, paramFits, above, readMany, readNumber, readText, readPair, readList, readMetadata, readField, readBareType, readUnionChild, readChildren, readZone, readParams, readType, readColumn, readSchema}
 use Rattle.model.proofs.Steps.{Holds, value, refusal, next-holds, holds-map, judged-holds}
 use Rattle.model.proofs.Exact.{item-holds}
@@ -42,7 +42,7 @@ abbrev pub WellFormedParams : Params → List ℕ → Type 0
 WellFormedParams (items ps) b = WellFormedItems ps b
 WellFormedParams timestamp b =
     (u : List ℕ) × (m : List ℕ) × (z : List ℕ) × (b ≡ u ++ (m ++ z)) × (length u ≡ 1) × (length m ≡ 1)
-    × (paramFits unit u ≡ 0) × (atMost 1 (num m) ≡ 0) × WellFormedZone (bit 0 (num m)) z
+    × (paramFits unit u ≡ 0) × (paramFits zoneMap m ≡ 0) × WellFormedZone (bit 0 (num m)) z
 
 module _ {T : Type 0} (G : Bool → T → Type 0) where
   pub record WellFormedField (f : FieldOver T) : Type 0 where

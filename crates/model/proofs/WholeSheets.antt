@@ -106,9 +106,9 @@ unfolding readTrain
 train-reads xs f w = sheets-read (each sheetBytes xs) maxSheets 0 xs f w (record { inside = omega arith; bytes = refl })
 
 -- and more are refused by 33
-pub train-refuses : (xs : List Schema) → Every Fits xs → maxSheets < length xs → (p : ℕ) × (readTrain (each sheetBytes xs) ≡ bad tooManySheets p)
+pub train-too-many : (xs : List Schema) → Every Fits xs → maxSheets < length xs → (p : ℕ) × (readTrain (each sheetBytes xs) ≡ bad tooManySheets p)
 unfolding readTrain
-train-refuses xs f w = sheets-refuse (each sheetBytes xs) maxSheets 0 xs f w (record { inside = omega arith; bytes = refl })
+train-too-many xs f w = sheets-refuse (each sheetBytes xs) maxSheets 0 xs f w (record { inside = omega arith; bytes = refl })
 
 sheets-exact : (s : Bytes) → AreBytes s → (n place : ℕ) → place ≤ length s → Holds (λ xs e. (drop place s ≡ each sheetBytes xs) × Every Fits xs × (length xs ≤ n)) (readSheets s n place)
 unfolding readSheets

@@ -1,0 +1,3 @@
+-- The definitions that the contracts of `buffer` cite.
+pub mod Buffer
+pub mod Leaves

@@ -1,0 +1,2 @@
+-- The laws that the proofs of `text` lean on.
+pub mod Utf8
