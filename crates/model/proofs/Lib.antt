@@ -19,6 +19,7 @@ pub mod WholeSheets
 -- calls
 pub mod Calls
 pub mod Refusals
+pub mod Places
 -- the other operations
 pub mod Look
 pub mod Projection

@@ -8,7 +8,7 @@ use Rattle.model.specs.Numbers.{maxLevels, keyNotAbove}
 use Rattle.model.specs.Bytes.{Bytes, Metadata, Every, num, bit}
 use Rattle.model.specs.Text.{utf8, utf8From}
 use Rattle.model.specs.Tree.{FieldOver, DataType, Field, Schema, blank, Params, items, timestamp, Children, fields, keyAndValue, counted, countedWithIds, layout, unit, zoneMap}
-use Rattle.model.specs.Read.{Reader, ifSet, unless, atMost, isText, mapFits, codeFits, idFits, paramFits, above, readMany, readNumber, readText, readPair, readList, readMetadata, readField, readBareType, readUnionChild, readChildren, readZone, readParams, readType, readColumn, readSchema}
+use Rattle.model.specs.Read.{Reader, ifSet, unless, isText, mapFits, codeFits, idFits, paramFits, above, readMany, readNumber, readText, readPair, readList, readMetadata, readField, readBareType, readUnionChild, readChildren, readZone, readParams, readType, readColumn, readSchema}
 use Rattle.model.proofs.Steps.{Holds, value, refusal, next-holds, holds-map, judged-holds}
 use Rattle.model.proofs.Exact.{item-holds}
 

@@ -1,0 +1,7 @@
+-- What the proofs of several functions use.
+pub mod Ways
+pub mod Pairs
+pub mod Tables
+pub mod ParamWays
+pub mod TreeWays
+pub mod Members

@@ -1,0 +1,146 @@
+//! Random requests: fixed seeds, the same requests in every run.
+
+mod damage;
+mod parameters;
+mod source;
+mod trains;
+mod vary;
+
+use crate::request::{Operation, Request, Takes};
+use oracle::operations::Outcome;
+use oracle::random::Random;
+
+/// A random request of this operation with what the oracle's operation gives on it, and
+/// buffers of lengths that suit it.
+pub(crate) fn request(random: &mut Random, operation: Operation) -> (Request, Outcome) {
+    let mut request = inputs(random, operation);
+    let outcome = request.outcome();
+    lend(random, &mut request, &outcome);
+    (request, outcome)
+}
+
+fn inputs(random: &mut Random, operation: Operation) -> Request {
+    match operation.takes() {
+        Takes::Sheet => Request::new(operation, source::sheet(random)),
+        Takes::TwoSheets => {
+            let (first, second) = source::pair(random);
+            Request {
+                second,
+                ..Request::new(operation, first)
+            }
+        }
+        Takes::SheetAndName => {
+            let (sheet, schema) = source::sheet_and_schema(random);
+            Request {
+                second: parameters::name(random, &schema),
+                ..Request::new(operation, sheet)
+            }
+        }
+        Takes::IdsAndCount => {
+            let (ids, number) = parameters::ids_and_count(random);
+            Request {
+                number,
+                ..Request::new(operation, ids)
+            }
+        }
+        Takes::Count => Request {
+            number: parameters::count(random),
+            ..Request::new(operation, Vec::new())
+        },
+        Takes::Train => Request::new(operation, trains::train(random)),
+        Takes::SheetAndList => {
+            let (sheet, schema) = source::sheet_and_schema(random);
+            Request {
+                second: parameters::list(random, schema.fields.len()),
+                ..Request::new(operation, sheet)
+            }
+        }
+        Takes::SheetAndMask => {
+            let sheet = source::sheet(random);
+            Request {
+                second: parameters::mask(random, &sheet),
+                ..Request::new(operation, sheet)
+            }
+        }
+        Takes::SheetSeparatorAndLevel => {
+            let sheet = source::sheet(random);
+            Request {
+                second: parameters::separator(random),
+                number: parameters::level(random),
+                ..Request::new(operation, sheet)
+            }
+        }
+    }
+}
+
+/// Buffers exactly enough, one short, larger, or far too short.
+fn lend(random: &mut Random, request: &mut Request, outcome: &Outcome) {
+    let answer = outcome.as_ref().map_or(random.below(4), Vec::len);
+    request.answer = around(random, answer);
+    request.work = match request.operation.takes().sheets() {
+        true => around(random, 4 * request.sheet_bytes()),
+        false => 0,
+    };
+}
+
+/// A length around this one.
+fn around(random: &mut Random, exact: usize) -> usize {
+    match random.below(20) {
+        0 => exact.saturating_sub(1),
+        1 => random.below(exact + 1),
+        2..=9 => exact,
+        _ => exact + 1 + random.below(40),
+    }
+}
+
+#[cfg(test)]
+mod tests {
+    use super::*;
+    use crate::bench::Bench;
+    use crate::fixed;
+    use crate::side::Oracle;
+
+    #[test]
+    fn every_number_of_every_operation_comes_up() {
+        let mut bench = Bench::new(Box::new(Oracle));
+        for operation in Operation::ALL {
+            fixed::run(&mut bench, operation).unwrap();
+            let mut random = Random::new(operation as u64);
+            for _ in 0..3000 {
+                let (request, outcome) = request(&mut random, operation);
+                bench.run(&request, outcome).unwrap();
+            }
+        }
+        assert_eq!(bench.tally.missing(&Operation::ALL), []);
+        assert_eq!(bench.tally.strange(&Operation::ALL), []);
+    }
+
+    #[test]
+    fn verdicts_are_mixed() {
+        for operation in [
+            Operation::Equal,
+            Operation::EqualsDatatype,
+            Operation::Contains,
+        ] {
+            let mut random = Random::new(9);
+            let mut verdicts = [0; 2];
+            for _ in 0..2000 {
+                if let Ok(answer) = request(&mut random, operation).1 {
+                    verdicts[usize::from(answer[0])] += 1;
+                }
+            }
+            assert!(verdicts.iter().all(|&count| count > 300), "{verdicts:?}");
+        }
+    }
+
+    #[test]
+    fn the_same_seed_gives_the_same_requests() {
+        let made = |seed| {
+            let mut random = Random::new(seed);
+            let requests = Operation::ALL.map(|operation| request(&mut random, operation));
+            format!("{requests:?}")
+        };
+        assert_eq!(made(1), made(1));
+        assert_ne!(made(1), made(2));
+    }
+}

@@ -1,0 +1,240 @@
+//! Schemas that have to do with a given one: equal, changed in one field, in all flags, in
+//! all names, in their columns.
+
+use arrow_schema::{DataType, Field, FieldRef, Fields, Metadata, Schema, UnionFields, UnionMode};
+use oracle::random::{self, Random};
+use std::sync::Arc;
+
+/// A schema related to this one.
+pub(super) fn related(random: &mut Random, schema: &Schema) -> Schema {
+    match random.below(12) {
+        0 => schema.clone(),
+        1..=3 => one(schema, random, head),
+        4..=6 => one(schema, random, with_another_type),
+        7 => every(schema, random, |random, field| {
+            field.with_name(random::name(random))
+        }),
+        8 => every(schema, random, wider),
+        9 => every(schema, random, |random, field| {
+            field.with_dict_is_ordered(random.once_in(2))
+        }),
+        10 => every(schema, random, perhaps_null),
+        _ => columns(random, schema),
+    }
+}
+
+/// A schema that this one is likely to merge with: some types are Null, some columns gone or
+/// new, some fields nullable.
+pub(super) fn mergeable(random: &mut Random, schema: &Schema) -> Schema {
+    let nulled = every(schema, random, perhaps_null);
+    match random.below(4) {
+        0 => columns(random, &nulled),
+        1 => every(&nulled, random, wider),
+        2 => one(&nulled, random, with_another_type),
+        _ => nulled,
+    }
+}
+
+/// Changes one field, anywhere.
+fn one(schema: &Schema, random: &mut Random, change: fn(&mut Random, Field) -> Field) -> Schema {
+    let mut count = 0;
+    map_schema(schema, &mut |field| {
+        count += 1;
+        field
+    });
+    if count == 0 {
+        return schema.clone();
+    }
+    let (chosen, mut at) = (random.below(count), 0);
+    map_schema(schema, &mut |field| {
+        at += 1;
+        if at == chosen + 1 {
+            change(random, field)
+        } else {
+            field
+        }
+    })
+}
+
+/// Changes every field.
+fn every(schema: &Schema, random: &mut Random, change: fn(&mut Random, Field) -> Field) -> Schema {
+    map_schema(schema, &mut |field| change(random, field))
+}
+
+/// The schema with each field changed, children before the field that holds them.
+fn map_schema(schema: &Schema, change: &mut dyn FnMut(Field) -> Field) -> Schema {
+    let columns = map_fields(&schema.fields, change);
+    Schema::new_with_metadata(columns, schema.metadata.clone())
+}
+
+fn map_fields(fields: &Fields, change: &mut dyn FnMut(Field) -> Field) -> Fields {
+    fields
+        .iter()
+        .map(|field| map_field(field, change))
+        .collect()
+}
+
+fn map_field(field: &Field, change: &mut dyn FnMut(Field) -> Field) -> FieldRef {
+    let ordered = field.dict_is_ordered() == Some(true);
+    let data_type = map_type(field.data_type(), change);
+    let mapped = Field::new(field.name(), data_type, field.is_nullable())
+        .with_dict_is_ordered(ordered)
+        .with_metadata(field.metadata().clone());
+    Arc::new(change(mapped))
+}
+
+fn map_type(data_type: &DataType, change: &mut dyn FnMut(Field) -> Field) -> DataType {
+    use DataType as T;
+    match data_type {
+        T::List(child) => T::List(map_field(child, change)),
+        T::ListView(child) => T::ListView(map_field(child, change)),
+        T::FixedSizeList(child, size) => T::FixedSizeList(map_field(child, change), *size),
+        T::LargeList(child) => T::LargeList(map_field(child, change)),
+        T::LargeListView(child) => T::LargeListView(map_field(child, change)),
+        T::Map(child, sorted) => T::Map(map_field(child, change), *sorted),
+        T::Struct(children) => T::Struct(map_fields(children, change)),
+        T::Union(children, mode) => {
+            let children = children
+                .iter()
+                .map(|(id, child)| (id, map_field(child, change)));
+            T::Union(children.collect(), *mode)
+        }
+        T::Dictionary(key, value) => {
+            let key = map_type(key, change);
+            T::Dictionary(Box::new(key), Box::new(map_type(value, change)))
+        }
+        T::RunEndEncoded(run_ends, values) => {
+            let run_ends = map_field(run_ends, change);
+            T::RunEndEncoded(run_ends, map_field(values, change))
+        }
+        other => other.clone(),
+    }
+}
+
+/// Another name, nullability, order flag or metadata.
+fn head(random: &mut Random, field: Field) -> Field {
+    match random.below(5) {
+        0 => field.with_name(random::name(random)),
+        1 => {
+            let nullable = !field.is_nullable();
+            field.with_nullable(nullable)
+        }
+        2 => {
+            let ordered = field.dict_is_ordered() != Some(true);
+            field.with_dict_is_ordered(ordered)
+        }
+        3 => field.with_metadata(Metadata::new()),
+        _ => field.with_metadata(random::metadata(random)),
+    }
+}
+
+/// Nullable, or with one more key, perhaps.
+fn wider(random: &mut Random, field: Field) -> Field {
+    match random.below(3) {
+        0 => field.with_nullable(true),
+        1 => {
+            let metadata = field.metadata().clone().with("k2", "1");
+            field.with_metadata(metadata)
+        }
+        _ => field,
+    }
+}
+
+fn perhaps_null(random: &mut Random, field: Field) -> Field {
+    match random.once_in(4) {
+        true => retyped(&field, DataType::Null),
+        false => field,
+    }
+}
+
+/// The field with another type; the order flag goes where the type is no dictionary.
+fn retyped(field: &Field, data_type: DataType) -> Field {
+    Field::new(field.name(), data_type, field.is_nullable())
+        .with_dict_is_ordered(field.dict_is_ordered() == Some(true))
+        .with_metadata(field.metadata().clone())
+}
+
+fn with_another_type(random: &mut Random, field: Field) -> Field {
+    let data_type = another_type(random, field.data_type());
+    retyped(&field, data_type)
+}
+
+/// A type near this one, or any other.
+fn another_type(random: &mut Random, data_type: &DataType) -> DataType {
+    use DataType as T;
+    if random.once_in(6) {
+        return random::data_type(random, 2);
+    }
+    match data_type {
+        T::List(child) | T::LargeList(child) | T::ListView(child) | T::LargeListView(child) => {
+            let child = child.clone();
+            match random.below(5) {
+                0 => T::List(child),
+                1 => T::LargeList(child),
+                2 => T::ListView(child),
+                3 => T::LargeListView(child),
+                _ => T::FixedSizeList(child, 4),
+            }
+        }
+        T::FixedSizeList(child, size) => T::FixedSizeList(child.clone(), size ^ 1),
+        T::Map(child, sorted) => T::Map(child.clone(), !sorted),
+        T::Struct(children) => T::Struct(other_children(random, children)),
+        T::Union(children, mode) => other_union(random, children, *mode),
+        T::Dictionary(key, value) => match random.below(3) {
+            0 => T::Dictionary(value.clone(), key.clone()),
+            1 => T::Dictionary(key.clone(), Box::new(another_type(random, value))),
+            _ => T::Dictionary(Box::new(another_type(random, key)), value.clone()),
+        },
+        T::RunEndEncoded(run_ends, values) => T::RunEndEncoded(values.clone(), run_ends.clone()),
+        T::Timestamp(unit, None) => T::Timestamp(*unit, Some("".into())),
+        T::Timestamp(unit, Some(_)) => T::Timestamp(*unit, None),
+        _ => random::leaf(random),
+    }
+}
+
+/// Columns or children: one gone, one new, one twice, or two in each other's place.
+fn other_children(random: &mut Random, children: &Fields) -> Fields {
+    let mut list = children.to_vec();
+    let at = random.below(list.len() + 1);
+    match (random.below(4), list.get(at).cloned()) {
+        (0, Some(_)) => drop(list.remove(at)),
+        (1, Some(child)) => list.insert(at, child),
+        (2, Some(_)) => list.swap(0, at),
+        _ => list.insert(at, Arc::new(random::field(random, 2))),
+    }
+    list.into()
+}
+
+fn columns(random: &mut Random, schema: &Schema) -> Schema {
+    let columns = other_children(random, &schema.fields);
+    let metadata = match random.once_in(2) {
+        true => random::metadata(random),
+        false => schema.metadata.clone(),
+    };
+    Schema::new_with_metadata(columns, metadata)
+}
+
+/// A union: the other mode, another order, a child gone or new, or another id.
+fn other_union(random: &mut Random, children: &UnionFields, mode: UnionMode) -> DataType {
+    let mut list: Vec<(i8, FieldRef)> = children
+        .iter()
+        .map(|(id, child)| (id, child.clone()))
+        .collect();
+    let free = (0..=i8::MAX).find(|id| list.iter().all(|(taken, _)| taken != id));
+    let free = free.expect("a random union has few children");
+    let at = random.below(list.len() + 1);
+    match (random.below(5), at < list.len()) {
+        (0, true) => list[at].0 = free,
+        (1, true) => drop(list.remove(at)),
+        (2, _) => list.reverse(),
+        (3, _) => list.push((free, Arc::new(random::field(random, 2)))),
+        _ => {
+            let turned = match mode {
+                UnionMode::Sparse => UnionMode::Dense,
+                UnionMode::Dense => UnionMode::Sparse,
+            };
+            return DataType::Union(children.clone(), turned);
+        }
+    }
+    DataType::Union(list.into_iter().collect(), mode)
+}

@@ -1,0 +1,203 @@
+//! `compare [COUNT]`: runs the oracle and the port on the same bytes and buffer lengths and
+//! compares number, place, length, and every byte of both buffers at exit.
+//!
+//! First the fixed list, then all that is short, then COUNT random requests for each
+//! operation, with fixed seeds. It prints how often each number came up at each operation.
+//! Status 0 and the last line `compare: N requests, no difference` where both sides agree;
+//! status 1 and the first difference where they do not, or where, in a run of at least the
+//! default count, a number that an operation can give never came up.
+
+mod bench;
+mod fixed;
+mod generate;
+mod jobs;
+mod request;
+mod short;
+mod side;
+mod tally;
+
+use request::Operation;
+use side::{Fault, Faulty, Oracle, Side};
+use std::process::ExitCode;
+
+/// Random requests for each operation where no count is given.
+const DEFAULT_COUNT: usize = 300_000;
+
+const USAGE: &str = "\
+usage: compare [COUNT] [--short BYTES] [--oracle] [--fault WHAT]
+  COUNT           random requests for each operation (default 300000)
+  --short BYTES   all byte strings up to this length as sheets, texts one byte longer, lists
+                  of ids one shorter (default 3)
+  --oracle        compare the oracle with itself, not with the linked library
+  --fault WHAT    change WHAT (number, place, length, answer or work) of the second side at
+                  every thousandth request: the run must then end with a difference";
+
+/// What the command line asks for.
+#[derive(Debug, PartialEq)]
+struct Options {
+    count: usize,
+    longest: usize,
+    oracle: bool,
+    fault: Option<Fault>,
+}
+
+fn options(mut words: impl Iterator<Item = String>) -> Option<Options> {
+    let mut options = Options {
+        count: DEFAULT_COUNT,
+        longest: short::LONGEST,
+        oracle: false,
+        fault: None,
+    };
+    while let Some(word) = words.next() {
+        match word.as_str() {
+            "--short" => options.longest = words.next()?.parse().ok()?,
+            "--oracle" => options.oracle = true,
+            "--fault" => options.fault = Some(Fault::named(&words.next()?)?),
+            count => options.count = count.parse().ok()?,
+        }
+    }
+    Some(options)
+}
+
+/// The library as second side, if this build has it.
+fn library() -> Option<Box<dyn Side>> {
+    #[cfg(feature = "linked")]
+    return Some(Box::new(side::Library));
+    #[cfg(not(feature = "linked"))]
+    return None;
+}
+
+impl Options {
+    /// The second side. A fault is put on the library where there is one, else on the oracle.
+    fn side(&self) -> Option<Box<dyn Side>> {
+        let oracle = || -> Box<dyn Side> { Box::new(Oracle) };
+        let side = match (self.oracle, self.fault) {
+            (true, _) => Some(oracle()),
+            (false, None) => library(),
+            (false, Some(_)) => library().or_else(|| Some(oracle())),
+        }?;
+        Some(match self.fault {
+            None => side,
+            Some(fault) => Box::new(Faulty::new(side, fault)),
+        })
+    }
+
+    /// Says what is compared with what.
+    fn headline(&self) -> String {
+        let second = match cfg!(feature = "linked") && !self.oracle {
+            true => "the linked library",
+            false => "itself, which shows nothing of the port",
+        };
+        match self.fault {
+            None => format!("compare: the oracle beside {second}"),
+            Some(_) => format!("compare: the oracle beside {second}; with deliberate faults"),
+        }
+    }
+
+    /// A fault's place among the requests is fixed, so one thread makes them all.
+    fn threads(&self) -> usize {
+        match self.fault {
+            Some(_) => 1,
+            None => std::thread::available_parallelism().map_or(1, usize::from),
+        }
+    }
+}
+
+fn main() -> ExitCode {
+    let Some(options) = options(std::env::args().skip(1)) else {
+        eprintln!("{USAGE}");
+        return ExitCode::from(2);
+    };
+    if options.side().is_none() {
+        eprintln!("compare: built without the feature linked, so there is no library to compare");
+        eprintln!("with; --oracle compares the oracle with itself and shows nothing of the port");
+        return ExitCode::from(2);
+    }
+    println!("{}", options.headline());
+    let operations = Operation::of_this_build();
+    let jobs = jobs::plan(operations, options.count, options.longest);
+    let side = || options.side().expect("it was there before");
+    let (tally, difference) = jobs::run(&jobs, options.threads(), &side);
+    print!("{tally}");
+    if let Some(difference) = difference {
+        println!("the first difference:\n{difference}compare: the sides differ");
+        return ExitCode::FAILURE;
+    }
+    if !judge(&tally, operations, options.count >= DEFAULT_COUNT) {
+        return ExitCode::FAILURE;
+    }
+    println!("compare: {} requests, no difference", tally.requests());
+    ExitCode::SUCCESS
+}
+
+/// Says which numbers came up that must not, and which did not that must, where all must.
+fn judge(tally: &tally::Tally, operations: &[Operation], all: bool) -> bool {
+    let strange = tally.strange(operations);
+    let missing = tally.missing(operations);
+    for (operation, number) in &strange {
+        println!(
+            "compare: {} gave {number}, which it cannot",
+            operation.name()
+        );
+    }
+    for (operation, number) in &missing {
+        println!("compare: {} never gave {number}", operation.name());
+    }
+    strange.is_empty() && (missing.is_empty() || !all)
+}
+
+#[cfg(test)]
+mod tests {
+    use super::*;
+
+    fn parsed(words: &str) -> Option<Options> {
+        options(words.split_whitespace().map(str::to_owned))
+    }
+
+    #[test]
+    fn the_command_line_is_understood() {
+        let usual = Options {
+            count: DEFAULT_COUNT,
+            longest: 3,
+            oracle: false,
+            fault: None,
+        };
+        assert_eq!(parsed(""), Some(usual));
+        let small = Options {
+            count: 12,
+            longest: 0,
+            oracle: true,
+            fault: Some(Fault::Work),
+        };
+        assert_eq!(parsed("12 --oracle --short 0 --fault work"), Some(small));
+        for wrong in [
+            "twelve",
+            "--fault",
+            "--fault sheet",
+            "--short",
+            "--short x",
+            "--help",
+        ] {
+            assert_eq!(parsed(wrong), None, "{wrong}");
+        }
+    }
+
+    #[test]
+    fn a_missing_number_fails_a_run_of_the_default_count_alone() {
+        let operations = [Operation::TryFromFields];
+        let mut tally = tally::Tally::new();
+        tally.add(Operation::TryFromFields, 0, &[]);
+        tally.add(Operation::TryFromFields, 16, &[]);
+        assert!(judge(&tally, &operations, false));
+        assert!(!judge(&tally, &operations, true));
+        tally.add(Operation::TryFromFields, 31, &[]);
+        assert!(judge(&tally, &operations, true));
+        tally.add(Operation::TryFromFields, 32, &[]);
+        assert!(!judge(&tally, &operations, false));
+    }
+
+    #[test]
+    fn the_usage_names_the_default_count() {
+        assert!(USAGE.contains(&format!("(default {DEFAULT_COUNT})")));
+    }
+}

@@ -1,0 +1,107 @@
+//! Everything that is short: all byte strings up to 3 bytes as sheets, all texts of up to 4
+//! telling bytes as a name, all lists of up to 2 ids, all counts.
+
+use crate::bench::{Bench, Difference};
+use crate::request::{Operation, Request};
+
+/// The longest byte strings that are all tried as sheets. Texts go one byte further (to the
+/// longest sequence of UTF-8), lists of ids one less.
+pub(crate) const LONGEST: usize = 3;
+
+/// Every byte that stands at an edge of RFC 3629's table.
+pub(crate) const TEXT_BYTES: [u8; 24] = [
+    0x00, 0x7f, 0x80, 0x8f, 0x90, 0x9f, 0xa0, 0xbf, 0xc0, 0xc1, 0xc2, 0xdf, 0xe0, 0xe1, 0xec, 0xed,
+    0xee, 0xef, 0xf0, 0xf1, 0xf3, 0xf4, 0xf5, 0xff,
+];
+
+/// Runs the request; its buffers are enough.
+fn run(bench: &mut Bench, request: &mut Request) -> Result<(), Box<Difference>> {
+    request.work = match request.operation.takes().sheets() {
+        true => 4 * request.sheet_bytes() + 2,
+        false => 0,
+    };
+    let outcome = request.outcome();
+    bench.run(request, outcome)
+}
+
+/// Every byte string that begins with this byte and has at most so many bytes, as a sheet.
+pub(crate) fn sheets(
+    bench: &mut Bench,
+    operation: Operation,
+    first: u8,
+    longest: usize,
+) -> Result<(), Box<Difference>> {
+    let mut request = Request::new(operation, vec![first]);
+    request.answer = 5;
+    let every: Vec<u8> = (0..=u8::MAX).collect();
+    let mut try_one = |bytes: &[u8]| {
+        request.first.clear();
+        request.first.extend_from_slice(bytes);
+        run(bench, &mut request)
+    };
+    if first == 0 {
+        try_one(&[])?;
+    }
+    strings(&mut vec![first], &every, longest, &mut try_one)
+}
+
+/// Every text of at most so many telling bytes that begins with this one, as a column's name.
+pub(crate) fn texts(bench: &mut Bench, first: u8, longest: usize) -> Result<(), Box<Difference>> {
+    let mut request = Request::new(Operation::IsNested, Vec::new());
+    request.answer = 2;
+    strings(&mut vec![first], &TEXT_BYTES, longest, &mut |text| {
+        let length = (text.len() as u16).to_le_bytes();
+        request.first.clear();
+        request.first.extend([2, 1, 0, 4]);
+        request.first.extend(length);
+        request.first.extend(text);
+        request.first.push(2);
+        run(bench, &mut request)
+    })
+}
+
+/// Tries the bytes and all that go on from them with bytes of the alphabet.
+fn strings(
+    bytes: &mut Vec<u8>,
+    alphabet: &[u8],
+    longest: usize,
+    try_one: &mut impl FnMut(&[u8]) -> Result<(), Box<Difference>>,
+) -> Result<(), Box<Difference>> {
+    if bytes.len() > longest {
+        return Ok(());
+    }
+    try_one(bytes)?;
+    if bytes.len() < longest {
+        for &byte in alphabet {
+            bytes.push(byte);
+            strings(bytes, alphabet, longest, try_one)?;
+            bytes.pop();
+        }
+    }
+    Ok(())
+}
+
+/// Every number of fields.
+pub(crate) fn counts(bench: &mut Bench) -> Result<(), Box<Difference>> {
+    let mut request = Request::new(Operation::TryFromFields, Vec::new());
+    request.answer = 130;
+    (0..=u16::MAX).try_for_each(|count| {
+        request.number = count;
+        run(bench, &mut request)
+    })
+}
+
+/// Every list of at most so many ids, with 0 to 3 fields.
+pub(crate) fn ids(bench: &mut Bench, longest: usize) -> Result<(), Box<Difference>> {
+    let mut request = Request::new(Operation::TryNew, Vec::new());
+    request.answer = 3;
+    let every: Vec<u8> = (0..=u8::MAX).collect();
+    strings(&mut Vec::new(), &every, longest, &mut |ids| {
+        request.first.clear();
+        request.first.extend_from_slice(ids);
+        (0..4).try_for_each(|count| {
+            request.number = count;
+            run(bench, &mut request)
+        })
+    })
+}
