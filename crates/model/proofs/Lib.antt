@@ -8,6 +8,7 @@ pub mod Steps
 pub mod Gives
 pub mod Layouts
 pub mod Equivalences
+pub mod Flags
 -- P1 to P12
 pub mod Trials
 -- reading and writing
@@ -22,6 +23,8 @@ pub mod Refusals
 pub mod Places
 -- the other operations
 pub mod Look
+pub mod Search
+pub mod Unions
 pub mod Projection
 pub mod OrderFlags
 pub mod Normalized

@@ -10,9 +10,9 @@ use Rattle.model.specs.Sheet.{sheetBytes}
 use Rattle.model.specs.Read.{got, readTrain}
 use Rattle.model.specs.Merge.{empty, tryMerge}
 use Rattle.model.specs.Call.{bytes, sheetAnswer, mergeAnswer}
+use Rattle.model.specs.WellFormed.{WellFormedSchema}
 use Rattle.model.proofs.Lists.{every-map}
 use Rattle.model.proofs.Steps.{Holds, of-got}
-use Rattle.model.proofs.WellFormed.{WellFormedSchema}
 use Rattle.model.proofs.MergeKeeps.{empty-well-formed, merge-keeps}
 use Rattle.model.proofs.WholeSheets.{Fits, train-exact}
 use Rattle.model.proofs.Size.{train-size}

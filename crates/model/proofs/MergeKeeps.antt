@@ -11,11 +11,12 @@ use Rattle.model.specs.Tree.{FieldOver, DataType, Field, Schema, withChi
 use Rattle.model.specs.Read.{unless, isText, idFits}
 use Rattle.model.specs.Equal.{sameType}
 use Rattle.model.specs.Merge.{Merged, mergePair, mergeMetadata, mergeByName, mergeChild, idsDiffer, mergeField, mergeEach, isNull, mergeSameCode, mergeType, mergeSchema, empty, mergeFrom}
+use Rattle.model.specs.WellFormed.{Each, WellFormedPair, WellFormedField, WellFormedChildren, WellFormedType, WellFormedSchema}
 use Rattle.model.proofs.Lists.{and-true, or-false, beq-eq, every-append}
 use Rattle.model.proofs.Gives.{Gives, value, refusal, bind-gives, need-gives, choose-gives, gives-map, pour-keeps, placed-holds}
 use Rattle.model.proofs.Steps.{Holds, next-holds, then-zero, unless-got, then-got}
 use Rattle.model.proofs.Layouts.{struct-children, union-children, list-children}
-use Rattle.model.proofs.WellFormed.{Each, every-each, each-every, WellFormedPair, WellFormedField, WellFormedChildren, WellFormedType, WellFormedSchema}
+use Rattle.model.proofs.WellFormed.{every-each, each-every}
 use Rattle.model.proofs.Steps as steps
 
 -- Metadata

@@ -18,11 +18,12 @@ use Rattle.model.specs.Equal.{sameField, sameChild, sameType}
 use Rattle.model.specs.Merge.{Merged, done, clash, _>>=_, pour, mergePair, mergeMetadata, mergeByName, mergeChild, mergeField, mergeEach}
 use Rattle.model.specs.Merge.{isNull, mergeSameCode, mergeType, mergeSchema, empty, placed, mergeFrom, tryMerge}
 use Rattle.model.specs.Growth.{Kept, Pairwise, none, pair}
+use Rattle.model.specs.WellFormed.{WellFormedChildren, WellFormedType, WellFormedSchema, SomeOrder}
 use Rattle.model.proofs.Gives.{Gives, value, refusal, of-done, bind-gives, need-gives, choose-gives, gives-map}
 use Rattle.model.proofs.Lists.{or-false, or-left, or-right, beq-eq, every-unit, every-append, every-map}
 use Rattle.model.proofs.ByteStrings.{same-bytes-eq}
 use Rattle.model.proofs.Layouts.{list-children}
-use Rattle.model.proofs.WellFormed.{WellFormedChildren, WellFormedType, WellFormedSchema, SomeOrder, children-types, column-types}
+use Rattle.model.proofs.WellFormed.{children-types, column-types}
 use Rattle.model.proofs.Grows.{kept-refl, kept-trans, pairwise-refl, pairwise-trans}
 use Rattle.model.proofs.Equivalences.{below-neither, Equivalence, symmetric, transitive, field-equivalence, type-equivalence}
 

@@ -13,10 +13,11 @@ use Rattle.model.specs.Bytes.{Bytes, AreBytes, Every}
 use Rattle.model.specs.Tree.{Schema}
 use Rattle.model.specs.Sheet.{each, sheetBytes}
 use Rattle.model.specs.Read.{got, bad, next, readSchema, readSheet, readSheets, readTrain}
+use Rattle.model.specs.WellFormed.{WellFormedSchema}
 use Rattle.model.proofs.Gives.{choose-true, choose-false}
 use Rattle.model.proofs.Steps.{Holds, value, refusal, of-got, next-holds, judged-holds, both-hold, choose-holds, unless-zero, next-got, judged-got, unless-got}
 use Rattle.model.proofs.Exact.{schema-holds}
-use Rattle.model.proofs.WellFormed.{WellFormedSchema, schema-well-formed}
+use Rattle.model.proofs.WellFormed.{schema-well-formed}
 use Rattle.model.proofs.ReadsBack.{Lies, schema-reads}
 
 -- a schema that one sheet can hold

@@ -5,6 +5,7 @@ pub mod Text
 pub mod Tree
 pub mod Sheet
 pub mod Read
+pub mod WellFormed
 pub mod Equal
 pub mod Datatype
 pub mod Unions

@@ -1,7 +1,6 @@
 -- What the proofs of several functions use.
 pub mod Ways
 pub mod Pairs
-pub mod Tables
 pub mod ParamWays
 pub mod TreeWays
 pub mod Members

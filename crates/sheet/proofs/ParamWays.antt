@@ -12,7 +12,7 @@ use Rattle.model.specs.Read as read
 use Rattle.model.specs.Read.{got, next, judged, unless, ifSet, anything, isText, paramFits, readItem, readNumber, readZone, readParams}
 use Rattle.model.proofs.Items.{item-law}
 use Rattle.sheet.specs.Answers.{stepOf}
-use Rattle.sheet.specs.Kinds.{paramsBy}
+use Rattle.layout.specs.Kinds.{paramsBy}
 use Rattle.sheet.specs.declared.Step.{Step}
 use Rattle.sheet.proofs.Ways.{step-made, next-next, next-alike}
 

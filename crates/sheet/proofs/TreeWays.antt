@@ -17,7 +17,7 @@ use Rattle.model.proofs.Items.{number-law}
 use Rattle.model.proofs.Places.{Inside, atEnd, atRefusal, sheet-inside}
 use Rattle.sheet.specs.Answers.{stepOf, cursorAt}
 use Rattle.sheet.specs.declared.Cursor.{Cursor}
-use Rattle.sheet.specs.Kinds.{childrenBy}
+use Rattle.layout.specs.Kinds.{childrenBy}
 use Rattle.sheet.specs.Shapes.{readHead, readShape}
 use Rattle.sheet.specs.declared.Step.{Step}
 use Rattle.sheet.proofs.Ways.{step-is, step-no, step-made, next-next, next-alike}

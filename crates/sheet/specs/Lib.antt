@@ -1,4 +1,3 @@
 pub mod Answers
 pub mod Keys
-pub mod Kinds
 pub mod Shapes

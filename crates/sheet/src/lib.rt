@@ -15,7 +15,7 @@ ghost use Rattle.model.specs.Numbers.{maxSheetBytes};
 ghost use Prim.Native.Nat.{_^_};
 ghost use Rattle.sheet.specs.Answers.{itemOf, stepOf, upOf, cursorAt};
 ghost use Rattle.sheet.specs.Keys.{readKey, part};
-ghost use Rattle.sheet.specs.Kinds.{paramsBy, childrenBy};
+ghost use Rattle.layout.specs.Kinds.{paramsBy, childrenBy};
 ghost use Rattle.sheet.specs.Shapes.{readHead, readShape, readId};
 ghost use mathlib.Core.Bool.{not, _||_};
 ghost use lib.Dec.{eqb};
@@ -306,116 +306,6 @@ fn read_timestamp(s: &[u8], lim: usize, at: usize) -> Step
     Step::Next(zone)
 }
 
-// What parameters follow a code: see `paramsBy`.
-const PARAMS: [u8; 41] = [
-    0,
-    0,
-    0,
-    0,
-    0,
-    0,
-    0,
-    0,
-    0,
-    0,
-    0,
-    0,
-    0,
-    1,
-    0,
-    0,
-    2,
-    2,
-    2,
-    3,
-    0,
-    4,
-    0,
-    0,
-    0,
-    0,
-    0,
-    0,
-    0,
-    4,
-    0,
-    0,
-    0,
-    5,
-    0,
-    6,
-    6,
-    6,
-    6,
-    5,
-    0,
-];
-
-// What children follow a code's parameters: see `childrenBy`.
-const CHILDREN: [u8; 41] = [
-    0,
-    0,
-    0,
-    0,
-    0,
-    0,
-    0,
-    0,
-    0,
-    0,
-    0,
-    0,
-    0,
-    0,
-    0,
-    0,
-    0,
-    0,
-    0,
-    0,
-    0,
-    0,
-    0,
-    0,
-    0,
-    0,
-    0,
-    1,
-    1,
-    1,
-    1,
-    1,
-    4,
-    5,
-    3,
-    0,
-    0,
-    0,
-    0,
-    1,
-    2,
-];
-
-// What parameters a type has.
-fn params_kind(code: usize) -> u8
-    ensures { λ r. ⌜ paramsBy r ≡ layout code .params ⌝ }
-{
-    if 41 <= code {
-        return 0;
-    }
-    PARAMS[code]
-}
-
-// What children a type has.
-fn children_kind(code: usize) -> u8
-    ensures { λ r. ⌜ childrenBy r ≡ layout code .children ⌝ }
-{
-    if 41 <= code {
-        return 0;
-    }
-    CHILDREN[code]
-}
-
 // Precision and scale: each byte is allowed.
 fn read_decimal(s: &[u8], lim: usize, at: usize) -> Step
     ensures { λ r. ⌜ r ≡ stepOf (readParams (now (s .entry)) lim (paramsBy 6) at) ⌝ }
@@ -431,7 +321,7 @@ fn read_decimal(s: &[u8], lim: usize, at: usize) -> Step
 fn read_params(s: &[u8], lim: usize, at: usize, code: usize) -> Step
     ensures { λ r. ⌜ r ≡ stepOf (readParams (now (s .entry)) lim (layout code .params) at) ⌝ }
 {
-    let kind = params_kind(code);
+    let kind = layout::params_kind(code);
     match kind {
         0 => Step::Next(at),
         1 => read_timestamp(s, lim, at),
@@ -537,7 +427,7 @@ fn read_shape(s: &[u8], lim: usize, at: usize, code: usize, levels: usize) -> St
 fn read_children(s: &[u8], lim: usize, at: usize, code: usize, levels: usize) -> Step
     ensures { λ r. ⌜ r ≡ stepOf (readChildren (now (s .entry)) lim levels (readType (now (s .entry)) lim levels) (layout code .children) at) ⌝ }
 {
-    let kind = children_kind(code);
+    let kind = layout::children_kind(code);
     match kind {
         0 => Step::Next(at),
         1 => read_field(s, lim, at, levels),

@@ -9,7 +9,7 @@ use Prim.Native.Nat.{ℕ, _<_, _+_, _*_}
 use Rattle.model.specs.Bytes.{bit}
 use Rattle.model.specs.Read.{readMany, readField, readUnionChild, readType, readChildren, readList}
 use Rattle.sheet.specs.Answers.{stepOf}
-use Rattle.sheet.specs.Kinds.{childrenBy}
+use Rattle.layout.specs.Kinds.{childrenBy}
 use Rattle.sheet.specs.Shapes.{readShape, readMembers, noIds}
 use borrow.Fn.Kinds.{In}
 use borrow.Fn.PlainCycle.{Measures, is, falls, and}
@@ -40,7 +40,7 @@ use Rattle.sheet.proofs.+read_children+read_dictionary+read_field+read_
 use Rattle.sheet.proofs.read_union.Reads as read-union
 use Rattle.sheet.proofs.read_union.Kinds as read-union-kinds
 use Rattle.sheet.proofs.+read_children+read_dictionary+read_field+read_fields+read_members+read_shape+read_struct+read_type+read_union.Lts-read_union as read-union-lts
-use Rattle.sheet.proofs.children_kind.Reads as children-kind-reads
+use Rattle.layout.proofs.children_kind.Reads as children-kind-reads
 use Rattle.sheet.proofs.may_order.Reads as may-order-reads
 use Rattle.sheet.proofs.read_byte.Reads as read-byte-reads
 use Rattle.sheet.proofs.read_head.Reads as read-head-reads

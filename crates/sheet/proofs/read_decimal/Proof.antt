@@ -1,6 +1,6 @@
 use Rattle.sheet.proofs.Ways.{ways}
 use Rattle.sheet.proofs.ParamWays.{two-way}
-use Rattle.sheet.specs.Kinds.{paramsBy}
+use Rattle.layout.specs.Kinds.{paramsBy}
 use borrow.Author.Needs.{needs}
 use Rattle.sheet.proofs.read_decimal.Statement.{statement}
 use Rattle.sheet.proofs.read_decimal.Tie as tie

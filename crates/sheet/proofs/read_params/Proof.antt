@@ -1,5 +1,5 @@
 use Rattle.sheet.proofs.ParamWays.{params-way, none-way, one-way, wide-way, last-params, last-way}
-use Rattle.sheet.specs.Kinds.{paramsBy}
+use Rattle.layout.specs.Kinds.{paramsBy}
 use borrow.Author.Needs.{needs}
 use Rattle.sheet.proofs.read_params.Statement.{statement}
 use Rattle.sheet.proofs.read_params.Tie as tie

@@ -1,7 +1,7 @@
-use Rattle.sheet.proofs.Tables.{children, children-law, children-past}
+use Rattle.layout.proofs.Tables.{children, children-law, children-past}
 use borrow.Author.Needs.{needs}
-use Rattle.sheet.proofs.children_kind.Statement.{statement}
-use Rattle.sheet.proofs.children_kind.Tie as tie
+use Rattle.layout.proofs.children_kind.Statement.{statement}
+use Rattle.layout.proofs.children_kind.Tie as tie
 
 pub children-kind-spec : {M : Type 1} → statement M
 unfolding children

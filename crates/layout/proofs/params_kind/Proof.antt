@@ -1,7 +1,7 @@
-use Rattle.sheet.proofs.Tables.{params, params-law, params-past}
+use Rattle.layout.proofs.Tables.{params, params-law, params-past}
 use borrow.Author.Needs.{needs}
-use Rattle.sheet.proofs.params_kind.Statement.{statement}
-use Rattle.sheet.proofs.params_kind.Tie as tie
+use Rattle.layout.proofs.params_kind.Statement.{statement}
+use Rattle.layout.proofs.params_kind.Tie as tie
 
 pub params-kind-spec : {M : Type 1} → statement M
 unfolding params

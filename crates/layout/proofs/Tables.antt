@@ -4,7 +4,7 @@ use mathlib.Core.Path.{_≡_, sym, ap, _∙_}
 use mathlib.Core.List.{List, [], _∷_}
 use lib.ListN.{getD, List·getD-map, List·getD-eq-default}
 use Rattle.model.specs.Tree.{Layout, table, layout, leaf}
-use Rattle.sheet.specs.Kinds.{paramsBy, childrenBy}
+use Rattle.layout.specs.Kinds.{paramsBy, childrenBy}
 
 unfoldable pub params : List ℕ
 params =

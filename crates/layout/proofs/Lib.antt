@@ -1,0 +1,2 @@
+-- What the proofs of both look-ups use.
+pub mod Tables

@@ -1,0 +1,2 @@
+-- The definitions that the contracts of `layout` cite.
+pub mod Kinds

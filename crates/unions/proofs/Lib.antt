@@ -1,0 +1,3 @@
+-- The laws that the proofs of `unions` lean on.
+pub mod Walk
+pub mod Ends

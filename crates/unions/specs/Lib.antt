@@ -1,0 +1,3 @@
+-- What the contracts of `unions` cite beside the model's definitions.
+pub mod Answers
+pub mod Seen

@@ -1,0 +1,60 @@
+-- Where the columns of a sheet stand.
+use Prim.Native.Nat.{ℕ, _/_, _%_}
+use mathlib.Core.Path.{_≡_, refl, sym, ap, _∙_}
+use mathlib.Core.List.{List, [], _∷_}
+use mathlib.Core.Bool.{false≢true}
+use lib.ListN.{length, getD}
+use lib.Dec.{eqb}
+use borrow.Author.Tests.{eq-eqb, ne-eqb}
+use Rattle.model.specs.Numbers.{maxLevels}
+use Rattle.model.specs.Bytes.{Bytes, Metadata, u16}
+use Rattle.model.specs.Tree.{Field, Schema}
+use Rattle.model.specs.Sheet.{each, part, stands, withCount, pairBytes, columnBytes, sheetBytes}
+use Rattle.walk.specs.Stands.{Stands, Skips, ColumnsAt}
+use Rattle.walk.proofs.Standing.{byte-stands, two-stands, num-u16, stands-behind, skip-ahead, skip-join, skip-self}
+use Rattle.walk.proofs.Parts.{Ahead, twoAt, sheet-metadata-bit, sheet-columns-bit}
+
+module _ {s : Bytes} {place map metadata first : ℕ} (e : map ≡ getD s place 0) (a : Ahead s place 1 metadata)
+    (f : (m : Metadata) → stands m ≡ eqb (map % 2) 1 → Skips s metadata (part (withCount pairBytes) m) first) where
+  -- the map and the metadata, where a sheet stands
+  front : (m : Metadata) (cs : List (Field maxLevels)) → Stands s place (sheetBytes (record { metadata = m; columns = cs }))
+      → Skips s metadata (part (withCount pairBytes) m) first
+  unfolding sheetBytes
+  front m cs st = f m (sym (ap (λ n. eqb (n % 2) 1) (e ∙ byte-stands st) ∙ sheet-metadata-bit (stands m) (stands cs)))
+
+  columns-bit : (m : Metadata) (cs : List (Field maxLevels)) → Stands s place (sheetBytes (record { metadata = m; columns = cs }))
+      → eqb (map / 2 % 2) 1 ≡ stands cs
+  unfolding sheetBytes
+  columns-bit m cs st = ap (λ n. eqb (n / 2 % 2) 1) (e ∙ byte-stands st) ∙ sheet-columns-bit (stands m) (stands cs)
+
+  pub columns-some : {n at : ℕ} → map / 2 % 2 ≡ 1 → n ≡ twoAt s first → Ahead s first 2 at → (x : Schema) → Stands s place (sheetBytes x) → ColumnsAt s place x n at
+  unfolding sheetBytes withCount u16
+  columns-some {n} {at} h i b x st = go (x .metadata) (x .columns) st
+    where
+      go : (m : Metadata) (cs : List (Field maxLevels)) → Stands s place (sheetBytes (record { metadata = m; columns = cs })) → ColumnsAt s place (record { metadata = m; columns = cs }) n at
+      go m [] st = absurd (false≢true (sym (columns-bit m [] st) ∙ eq-eqb _ 1 h))
+      go m (x ∷ cs) st =
+          let p = skip-ahead (_ ∷ []) refl (a .1) in
+          let q = front m (x ∷ cs) st in
+          let st′ = stands-behind q (stands-behind p st) in
+          let u = skip-ahead (u16 (length (x ∷ cs))) refl (b .1) in
+          record {
+            count = i ∙ two-stands (u16 (length (x ∷ cs))) (each columnBytes (x ∷ cs)) refl st′ ∙ num-u16 (length (x ∷ cs));
+            stands = stands-behind u st′;
+            ends = skip-join p (skip-join q (skip-join u skip-self)) .behind st;
+          }
+
+  pub columns-none : (map / 2 % 2 ≡ 1 → ⊥) → (x : Schema) → Stands s place (sheetBytes x) → ColumnsAt s place x 0 first
+  unfolding sheetBytes
+  columns-none h x st = go (x .metadata) (x .columns) st
+    where
+      go : (m : Metadata) (cs : List (Field maxLevels)) → Stands s place (sheetBytes (record { metadata = m; columns = cs })) → ColumnsAt s place (record { metadata = m; columns = cs }) 0 first
+      go m [] st =
+          let p = skip-ahead (_ ∷ []) refl (a .1) in
+          let q = front m [] st in
+          record {
+            count = refl;
+            stands = stands-behind q (stands-behind p st);
+            ends = skip-join p (skip-join q skip-self) .behind st;
+          }
+      go m (x ∷ cs) st = absurd (false≢true (sym (ne-eqb _ 1 h) ∙ columns-bit m (x ∷ cs) st))

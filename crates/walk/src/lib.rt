@@ -1,0 +1,291 @@
+// Going over a sheet that has been read, part by part: document 01, "The sheet", and `DataType::is_nested` of datatype.rs.
+// Nothing here tests the format again. Each function takes any bytes and any place, and says what it gives where the part
+// stands there: the place behind it. What the bytes say else is of no use, but never out of bounds.
+ghost use mathlib.Core.Path.{_≡_};
+ghost use mathlib.Core.List.{List, _∷_, _++_};
+ghost use mathlib.Core.Bool.{Bool};
+ghost use Prim.Native.Nat.{ℕ, _+_, _*_, _<_, _≤_};
+ghost use lib.ListN.{length, getD};
+ghost use Rattle.model.specs.Bytes.{Bytes, Metadata, Every, num};
+ghost use Rattle.model.specs.Tree.{Head, DataType, Field, Schema, layout};
+ghost use Rattle.model.specs.Sheet.{each, withCount, part, stands, textBytes, pairBytes, headBytes, fieldBytes, childrenBytes, typeBytes, sheetBytes};
+ghost use Rattle.model.specs.Tree.Params.{timestamp};
+ghost use Rattle.model.specs.WellFormed.{WellFormedZone, WellFormedParams, CountFits, LaidOut};
+ghost use Rattle.model.specs.Datatype.{holdsFields, isNested};
+ghost use Rattle.walk.specs.Stands.{Stands, Skips, ColumnsAt};
+ghost use Rattle.layout.specs.Kinds.{paramsBy};
+ghost use Rattle.walk.specs.Widths.{width};
+
+// A byte as a number of places.
+fn wide(x: u8) -> usize
+    ensures { λ r. ⌜ (r ≡ x) × (r < 256) ⌝ }
+{
+    x as usize
+}
+
+// The byte at a place, 0 past the end.
+pub fn byte(s: &[u8], at: usize) -> usize
+    ensures { λ r. ⌜ (r ≡ getD (now (s .entry)) at 0) × (r < 256) ⌝ }
+{
+    if s.len() <= at {
+        return 0;
+    }
+    wide(s[at])
+}
+
+// The number of two bytes at a place, the low byte first.
+pub fn two(s: &[u8], at: usize) -> usize
+    ensures { λ r. ⌜ (r ≡ getD (now (s .entry)) at 0 + 256 * getD (now (s .entry)) (at + 1) 0) × (r < 65536) ⌝ }
+{
+    if s.len() <= at {
+        return 0;
+    }
+    byte(s, at) + 256 * byte(s, at + 1)
+}
+
+// So many bytes on, at most to the end.
+pub fn ahead(s: &[u8], at: usize, n: usize) -> usize
+    ensures { λ r. ⌜ (r ≤ length (now (s .entry))) × (at + n ≤ length (now (s .entry)) → r ≡ at + n) ⌝ }
+{
+    if s.len() <= at {
+        return s.len();
+    }
+    if s.len() - at < n {
+        return s.len();
+    }
+    at + n
+}
+
+// A length of two bytes, and so many bytes behind it.
+fn skip_counted(s: &[u8], at: usize) -> usize
+    ensures { λ r. ⌜ ((n t : Bytes) → length n ≡ 2 → length t ≡ num n → Skips (now (s .entry)) at (n ++ t) r) ⌝ }
+{
+    let body = ahead(s, at, 2);
+    ahead(s, body, two(s, at))
+}
+
+// A string.
+pub fn skip_text(s: &[u8], at: usize) -> usize
+    ensures { λ r. ⌜ ((t : Bytes) → Skips (now (s .entry)) at (textBytes t) r) ⌝ }
+{
+    skip_counted(s, at)
+}
+
+// So many keys and values.
+fn skip_pairs(s: &[u8], at: usize, count: usize) -> usize
+    ensures { λ r. ⌜ ((m : Metadata) → length m ≡ count → Skips (now (s .entry)) at (each pairBytes m) r) ⌝ }
+{
+    let mut place = at;
+    let mut left = count;
+    while 0 < left {
+        let value = skip_text(s, place);
+        place = skip_text(s, value);
+        left -= 1;
+    }
+    place
+}
+
+// Metadata: the count, then the keys and values.
+pub fn skip_metadata(s: &[u8], at: usize) -> usize
+    ensures { λ r. ⌜ ((m : Metadata) → Skips (now (s .entry)) at (withCount pairBytes m) r) ⌝ }
+{
+    let first = ahead(s, at, 2);
+    skip_pairs(s, first, two(s, at))
+}
+
+// A string under a bit of a map.
+fn skip_text_if(s: &[u8], at: usize, set: bool) -> usize
+    ensures { λ r. ⌜ ((t : Bytes) → stands t ≡ set → Skips (now (s .entry)) at (part textBytes t) r) ⌝ }
+{
+    if set {
+        return skip_text(s, at);
+    }
+    at
+}
+
+// Metadata under a bit of a map.
+fn skip_metadata_if(s: &[u8], at: usize, set: bool) -> usize
+    ensures { λ r. ⌜ ((m : Metadata) → stands m ≡ set → Skips (now (s .entry)) at (part (withCount pairBytes) m) r) ⌝ }
+{
+    if set {
+        return skip_metadata(s, at);
+    }
+    at
+}
+
+// A field's map, name and metadata.
+pub fn skip_head(s: &[u8], at: usize) -> usize
+    ensures { λ r. ⌜ ((h : Head) → Skips (now (s .entry)) at (headBytes h) r) ⌝ }
+{
+    let map = byte(s, at);
+    let name = ahead(s, at, 1);
+    let metadata = skip_text_if(s, name, map / 4 % 2 == 1);
+    skip_metadata_if(s, metadata, map / 8 % 2 == 1)
+}
+
+// How many bytes parameters of a kind take, a time stamp's without its zone.
+fn params_width(kind: u8) -> usize
+    ensures { λ r. ⌜ r ≡ width (paramsBy kind) ⌝ }
+{
+    match kind {
+        0 => 0,
+        2 => 1,
+        3 => 1,
+        4 => 4,
+        5 => 1,
+        _ => 2,
+    }
+}
+
+// A time zone under the bit of a time stamp's map.
+fn skip_zone_if(s: &[u8], at: usize, set: bool) -> usize
+    ensures { λ r. ⌜ ((z : Bytes) → WellFormedZone set z → Skips (now (s .entry)) at z r) ⌝ }
+{
+    if set {
+        return skip_counted(s, at);
+    }
+    at
+}
+
+// A time stamp's unit, map and zone.
+fn skip_timestamp(s: &[u8], at: usize) -> usize
+    ensures { λ r. ⌜ ((b : Bytes) → WellFormedParams timestamp b → Skips (now (s .entry)) at b r) ⌝ }
+{
+    let map = ahead(s, at, 1);
+    let zone = ahead(s, map, 1);
+    skip_zone_if(s, zone, byte(s, map) % 2 == 1)
+}
+
+// The parameters of a type.
+pub fn skip_params(s: &[u8], at: usize, code: usize) -> usize
+    ensures { λ r. ⌜ ((b : Bytes) → WellFormedParams (layout code .params) b → Skips (now (s .entry)) at b r) ⌝ }
+{
+    let kind = layout::params_kind(code);
+    if kind == 1 {
+        return skip_timestamp(s, at);
+    }
+    ahead(s, at, params_width(kind))
+}
+
+// A field of at most so many levels.
+pub fn skip_field(s: &[u8], at: usize, levels: usize) -> usize
+    ensures { λ r. ⌜ ((l : ℕ) (f : Field l) → l ≤ levels → LaidOut l (f .dataType) → Skips (now (s .entry)) at (fieldBytes (typeBytes l) f) r) ⌝ }
+{
+    skip_type(s, skip_head(s, at), levels)
+}
+
+// A type of at most so many levels, itself among them.
+pub fn skip_type(s: &[u8], at: usize, levels: usize) -> usize
+    ensures { λ r. ⌜ ((l : ℕ) (t : DataType l) → l ≤ levels → LaidOut l t → Skips (now (s .entry)) at (typeBytes l t) r) ⌝ }
+{
+    if levels <= 0 {
+        return at;
+    }
+    let code = byte(s, at);
+    let params = ahead(s, at, 1);
+    let children = skip_params(s, params, code);
+    skip_children(s, children, code, levels - 1)
+}
+
+// The children of a type.
+fn skip_children(s: &[u8], at: usize, code: usize, levels: usize) -> usize
+    ensures { λ r. ⌜ ((l : ℕ) (ks : List (Field l)) → l ≤ levels → CountFits (layout code .children) ks → Every (λ k. LaidOut l (k .dataType)) ks → Skips (now (s .entry)) at (childrenBytes (typeBytes l) (layout code .children) ks) r) ⌝ }
+{
+    let kind = wide(layout::children_kind(code));
+    if kind < 3 {
+        return skip_fields(s, at, kind, levels);
+    }
+    if kind == 3 {
+        return skip_type(s, skip_type(s, at, levels), levels);
+    }
+    let first = ahead(s, at, 2);
+    if kind == 4 {
+        return skip_fields(s, first, two(s, at), levels);
+    }
+    skip_members(s, first, two(s, at), levels)
+}
+
+// So many fields, one behind the other.
+pub fn skip_fields(s: &[u8], at: usize, count: usize, levels: usize) -> usize
+    ensures { λ r. ⌜ ((l : ℕ) (ks : List (Field l)) → l ≤ levels → length ks ≡ count → Every (λ k. LaidOut l (k .dataType)) ks → Skips (now (s .entry)) at (each (fieldBytes (typeBytes l)) ks) r) ⌝ }
+{
+    let mut place = at;
+    let mut left = count;
+    while 0 < left {
+        place = skip_field(s, place, levels);
+        left -= 1;
+    }
+    place
+}
+
+// So many union children, each an id and a field.
+pub fn skip_members(s: &[u8], at: usize, count: usize, levels: usize) -> usize
+    ensures { λ r. ⌜ ((l : ℕ) (ks : List (Field l)) → l ≤ levels → length ks ≡ count → Every (λ k. LaidOut l (k .dataType)) ks → Skips (now (s .entry)) at (each (λ k. k .head .typeId ∷ fieldBytes (typeBytes l) k) ks) r) ⌝ }
+{
+    let mut place = at;
+    let mut left = count;
+    while 0 < left {
+        let field = ahead(s, place, 1);
+        place = skip_field(s, field, levels);
+        left -= 1;
+    }
+    place
+}
+
+// The number of a sheet's columns and the place of the first, where the sheet stands at a place.
+pub struct Columns {
+    pub count: usize,
+    pub at: usize,
+}
+
+// The columns of a sheet.
+pub fn find_columns(s: &[u8], at: usize) -> Columns
+    ensures { λ r. ⌜ ((x : Schema) → Stands (now (s .entry)) at (sheetBytes x) → ColumnsAt (now (s .entry)) at x (r .count) (r .at)) ⌝ }
+{
+    let map = byte(s, at);
+    let metadata = ahead(s, at, 1);
+    let place = skip_metadata_if(s, metadata, map % 2 == 1);
+    if map / 2 % 2 == 1 {
+        return Columns {
+            count: two(s, place),
+            at: ahead(s, place, 2),
+        };
+    }
+    Columns {
+        count: 0,
+        at: place,
+    }
+}
+
+// Whether a type of this code holds fields of the column's own values.
+fn holds_fields(code: usize) -> bool
+    ensures { λ r. ⌜ r ≡ holdsFields code ⌝ }
+{
+    if code < 27 {
+        return false;
+    }
+    if code <= 33 {
+        return true;
+    }
+    code == 39
+}
+
+// `DataType::is_nested`, for a type of at most so many levels that stands at a place. A Dictionary takes the verdict of its
+// value type, RunEndEncoded that of its values.
+pub fn is_nested(s: &[u8], at: usize, levels: usize) -> bool
+    ensures { λ r. ⌜ ((l : ℕ) (t : DataType l) → l ≤ levels → LaidOut l t → Stands (now (s .entry)) at (typeBytes l t) → r ≡ isNested l t) ⌝ }
+{
+    if levels <= 0 {
+        return false;
+    }
+    let code = byte(s, at);
+    let first = ahead(s, at, 1);
+    if code == 34 {
+        return is_nested(s, skip_type(s, first, levels - 1), levels - 1);
+    }
+    if code == 40 {
+        let values = skip_field(s, first, levels - 1);
+        return is_nested(s, skip_head(s, values), levels - 1);
+    }
+    holds_fields(code)
+}
