@@ -48,7 +48,7 @@ module _ (given : ℕ) (outcome : Answer) (work answer : Bytes) {t : Bool} (test
   unfolding call
   call-short h e = leaves-refusal workBufferShort 0 work answer e ∙ sym (choose-true _ _ _ (sym tested ∙ h))
 
-  call-settled : {x : Exit} → t ≡ false → x ≡ settled outcome (zeros (length work)) answer → x ≡ call given outcome work answer
+  pub call-settled : {x : Exit} → t ≡ false → x ≡ settled outcome (zeros (length work)) answer → x ≡ call given outcome work answer
   unfolding call
   call-settled h e = e ∙ sym (choose-false _ _ _ (sym tested ∙ h))
 
@@ -61,6 +61,11 @@ module _ (given : ℕ) (outcome : Answer) (work answer : Bytes) {t : Bool} (test
       → x ≡ call given outcome work answer
   unfolding settled
   call-answered h o e = call-settled h (rw o e)
+
+  -- the same where the work buffer was cleared before, and the answer is written whatever the work buffer has
+  pub call-written : (r : Outcome) (after cleared : Bytes) {b : Bytes} → t ≡ false → outcome ≡ bytes b
+      → ((w : Bytes) → leaves r after w ≡ acceptance b w answer) → cleared ≡ zeros (length work) → leaves r after cleared ≡ call given outcome work answer
+  call-written r after cleared {b} h o e z = call-answered h o (e cleared ∙ ap (λ w. acceptance b w answer) z)
 
 -- what `search` ends a call with: `search (ends, ..)`, the rest being the caller's laws that its steps answer the definition's outcome
 pub ruleset ends = (call-short, call-refused, call-answered)

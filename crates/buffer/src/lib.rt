@@ -153,11 +153,10 @@ pub fn accept_byte(work: &mut [u8], answer: &mut [u8], b: u8) -> Outcome
     accept(work, answer, &one)
 }
 
-// "`index_of` writes a u16."
+// "`index_of` writes a u16." Of a larger number the call says nothing: that a number is that small is known of a sheet that was read.
 pub fn accept_u16(work: &mut [u8], answer: &mut [u8], v: usize) -> Outcome
-    requires { ⌜ v < 65536 ⌝ }
-    ensures { λ r. ⌜ leaves r (now (answer .exit)) (now (work .exit)) ≡ acceptance (u16 v) (zeros (length (now (work .entry)))) (now (answer .entry)) ⌝ }
+    ensures { λ r. ⌜ (v < 65536 → leaves r (now (answer .exit)) (now (work .exit)) ≡ acceptance (u16 v) (zeros (length (now (work .entry)))) (now (answer .entry))) ⌝ }
 {
-    let two = [(v % 256) as u8, (v / 256) as u8];
+    let two = [(v % 256) as u8, (v / 256 % 256) as u8];
     accept(work, answer, &two)
 }

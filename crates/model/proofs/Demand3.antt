@@ -16,14 +16,14 @@ use Rattle.model.specs.Read.{Step, got, bad, next, readSheet, readTrain}
 use Rattle.model.specs.Merge.{mergeSchema, empty, placed, mergeFrom, tryMerge}
 use Rattle.model.specs.Call.{Answer, bytes, sheetAnswer, mergeAnswer, call}
 use Rattle.model.specs.Growth.{Distinct, names, NoNameTwice, SheetOfDemand3, endToEnd, WroteSheet, Demand3}
-use Rattle.model.specs.WellFormed.{WellFormedParams, WellFormedChildren, WellFormedType, WellFormedSchema, SomeOrder}
+use Rattle.model.specs.WellFormed.{WellFormedParams, WellFormedChildren, WellFormedType, WellFormedSchema, Fits, SomeOrder}
 use Rattle.model.proofs.Lists.{every-append, every-map, every-both, each-append}
 use Rattle.model.proofs.ByteStrings.{differ-same-bytes}
 use Rattle.model.proofs.Gives.{placed-holds}
 use Rattle.model.proofs.Steps.{Holds, value, of-got, next-holds, holds-map, got-inv, next-inv}
 use Rattle.model.proofs.WellFormed.{children-types, column-types}
 use Rattle.model.proofs.MergeKeeps.{empty-well-formed, merge-keeps}
-use Rattle.model.proofs.WholeSheets.{Fits, sheet-exact, sheet-reads, train-reads, train-too-many}
+use Rattle.model.proofs.WholeSheets.{sheet-exact, sheet-reads, train-reads, train-too-many}
 use Rattle.model.proofs.Grows.{Apart, Tidy, Standing, SchemaGrew, schema-grows, schema-refl, schema-trans, schema-grown}
 use Rattle.model.proofs.Calls.{Accepted, accepted-call, call-accepted, then-inv, answer-then, bytes-inv}
 use Rattle.model.proofs.Refusals.{merge-numbered}

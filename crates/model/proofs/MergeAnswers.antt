@@ -10,11 +10,11 @@ use Rattle.model.specs.Sheet.{sheetBytes}
 use Rattle.model.specs.Read.{got, readTrain}
 use Rattle.model.specs.Merge.{empty, tryMerge}
 use Rattle.model.specs.Call.{bytes, sheetAnswer, mergeAnswer}
-use Rattle.model.specs.WellFormed.{WellFormedSchema}
+use Rattle.model.specs.WellFormed.{WellFormedSchema, Fits}
 use Rattle.model.proofs.Lists.{every-map}
 use Rattle.model.proofs.Steps.{Holds, of-got}
 use Rattle.model.proofs.MergeKeeps.{empty-well-formed, merge-keeps}
-use Rattle.model.proofs.WholeSheets.{Fits, train-exact}
+use Rattle.model.proofs.WholeSheets.{train-exact}
 use Rattle.model.proofs.Size.{train-size}
 use Rattle.model.proofs.NothingLost.{HeldSchema, columnsGiven, OneChildEach, well-formed-one-child, nothing-lost}
 use Rattle.model.proofs.Calls.{then-inv, bytes-inv}

@@ -13,17 +13,12 @@ use Rattle.model.specs.Bytes.{Bytes, AreBytes, Every}
 use Rattle.model.specs.Tree.{Schema}
 use Rattle.model.specs.Sheet.{each, sheetBytes}
 use Rattle.model.specs.Read.{got, bad, next, readSchema, readSheet, readSheets, readTrain}
-use Rattle.model.specs.WellFormed.{WellFormedSchema}
+use Rattle.model.specs.WellFormed.{Fits}
 use Rattle.model.proofs.Gives.{choose-true, choose-false}
 use Rattle.model.proofs.Steps.{Holds, value, refusal, of-got, next-holds, judged-holds, both-hold, choose-holds, unless-zero, next-got, judged-got, unless-got}
 use Rattle.model.proofs.Exact.{schema-holds}
 use Rattle.model.proofs.WellFormed.{schema-well-formed}
 use Rattle.model.proofs.ReadsBack.{Lies, schema-reads}
-
--- a schema that one sheet can hold
-pub record Fits (x : Schema) : Type 0 where
-  pub wellFormed : WellFormedSchema x
-  pub size : length (sheetBytes x) ≤ maxSheetBytes
 
 -- A single sheet
 

@@ -1,12 +1,13 @@
 -- Trees that a sheet can hold: reading gives these and no others.
-use Prim.Native.Nat.{ℕ, zero, suc}
+use Prim.Native.Nat.{ℕ, zero, suc, _≤_}
 use mathlib.Core.Path.{_≡_}
 use mathlib.Core.List.{List, [], _∷_, _++_, map}
 use mathlib.Core.Bool.{Bool, true, false}
 use lib.ListN.{length}
-use Rattle.model.specs.Numbers.{maxLevels, keyNotAbove}
+use Rattle.model.specs.Numbers.{maxLevels, maxSheetBytes, keyNotAbove}
 use Rattle.model.specs.Bytes.{Bytes, Metadata, Every, num, bit}
 use Rattle.model.specs.Tree.{FieldOver, DataType, Field, Schema, blank, Params, items, timestamp, Children, fields, keyAndValue, counted, countedWithIds, layout, unit, zoneMap}
+use Rattle.model.specs.Sheet.{sheetBytes}
 use Rattle.model.specs.Read.{unless, isText, codeFits, idFits, paramFits, above}
 
 -- each with those before it, the last one first
@@ -59,6 +60,11 @@ WellFormedColumn f = WellFormedField (WellFormedType maxLevels) f × (f .head .t
 pub record WellFormedSchema (x : Schema) : Type 0 where
   pub metadata : Each WellFormedPair [] (x .metadata)
   pub columns : Each (λ seen k. WellFormedColumn k) [] (x .columns)
+
+-- a schema that one sheet can hold
+pub record Fits (x : Schema) : Type 0 where
+  pub wellFormed : WellFormedSchema x
+  pub size : length (sheetBytes x) ≤ maxSheetBytes
 
 -- A weaker form, all that going over the bytes of a tree needs: of each type the parameters and the number of children are those
 -- of its layout. Texts, ids and the order of keys do not matter.

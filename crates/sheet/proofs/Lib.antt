@@ -4,3 +4,4 @@ pub mod Pairs
 pub mod ParamWays
 pub mod TreeWays
 pub mod Members
+pub mod Reading

@@ -47,7 +47,7 @@ const MORE_IDS_THAN_FIELDS: u8 = 15;
 const TOO_MANY_FIELDS: u8 = 16;
 
 impl TypeId {
-    // The largest i8: the Rust holds an id in one, and a negative id is no byte up to here.
+    // The largest i8, which is what the Rust holds an id in. A byte above it is a negative one.
     pub const LAST: u8 = 127;
 
     // How many ids there are.

@@ -1,7 +1,9 @@
 -- The laws that the proofs of `walk` and of its callers use.
 pub mod Standing
 pub mod Parts
+pub mod Descents
 pub mod Turns
 pub mod Trees
-pub mod Schemas
 pub mod Nested
+pub mod Schemas
+pub mod Passed

@@ -1,17 +1,19 @@
 -- Where the columns of a sheet stand.
-use Prim.Native.Nat.{ℕ, _/_, _%_}
+use Prim.Native.Nat.{ℕ, _/_, _%_, _≤_}
+use native.Mathlib.Omega.{arith}
 use mathlib.Core.Path.{_≡_, refl, sym, ap, _∙_}
 use mathlib.Core.List.{List, [], _∷_}
 use mathlib.Core.Bool.{false≢true}
-use lib.ListN.{length, getD}
+use lib.ListN.{length, getD, length-append}
 use lib.Dec.{eqb}
 use borrow.Author.Tests.{eq-eqb, ne-eqb}
 use Rattle.model.specs.Numbers.{maxLevels}
 use Rattle.model.specs.Bytes.{Bytes, Metadata, u16}
 use Rattle.model.specs.Tree.{Field, Schema}
-use Rattle.model.specs.Sheet.{each, part, stands, withCount, pairBytes, columnBytes, sheetBytes}
-use Rattle.walk.specs.Stands.{Stands, Skips, ColumnsAt}
-use Rattle.walk.proofs.Standing.{byte-stands, two-stands, num-u16, stands-behind, skip-ahead, skip-join, skip-self}
+use Rattle.model.specs.Sheet.{each, part, stands, withCount, pairBytes, headBytes, fieldBytes, typeBytes, columnBytes, sheetBytes}
+use Rattle.walk.specs.Stands.{Stands, Skips, SkipsFields, ColumnsAt, SkipsSheet}
+use Rattle.walk.proofs.Standing.{byte-stands, stands-behind, skip-ahead, skip-join, skip-self}
+use Rattle.walk.proofs.Descents.{count-stands, elements-stand}
 use Rattle.walk.proofs.Parts.{Ahead, twoAt, sheet-metadata-bit, sheet-columns-bit}
 
 module _ {s : Bytes} {place map metadata first : ℕ} (e : map ≡ getD s place 0) (a : Ahead s place 1 metadata)
@@ -39,8 +41,8 @@ module _ {s : Bytes} {place map metadata first : ℕ} (e : map ≡ getD s place 
           let st′ = stands-behind q (stands-behind p st) in
           let u = skip-ahead (u16 (length (x ∷ cs))) refl (b .1) in
           record {
-            count = i ∙ two-stands (u16 (length (x ∷ cs))) (each columnBytes (x ∷ cs)) refl st′ ∙ num-u16 (length (x ∷ cs));
-            stands = stands-behind u st′;
+            count = i ∙ count-stands columnBytes (x ∷ cs) st′;
+            stands = elements-stand columnBytes (x ∷ cs) b st′;
             ends = skip-join p (skip-join q (skip-join u skip-self)) .behind st;
           }
 
@@ -58,3 +60,20 @@ module _ {s : Bytes} {place map metadata first : ℕ} (e : map ≡ getD s place 
             ends = skip-join p (skip-join q skip-self) .behind st;
           }
       go m (x ∷ cs) st = absurd (false≢true (sym (ne-eqb _ 1 h) ∙ columns-bit m (x ∷ cs) st))
+
+-- the columns reach to the end of the sheet
+pub sheet-skips : {s : Bytes} {place n first r : ℕ} → ((x : Schema) → Stands s place (sheetBytes x) → ColumnsAt s place x n first) → SkipsFields s first n maxLevels r → SkipsSheet s place r
+sheet-skips g f x w = record {
+  behind = λ st.
+      let c = g x st in
+      f maxLevels (x .columns) (omega arith) (sym (c .count)) w .behind (c .stands) ∙ c .ends;
+}
+
+-- a column takes a byte at least, so there are no more columns than bytes
+each-column : (fs : List (Field maxLevels)) → length fs ≤ length (each columnBytes fs)
+unfolding headBytes fieldBytes
+each-column [] = omega arith
+each-column (f ∷ fs) = omega (arith, each-column fs, length-append (columnBytes f) (each columnBytes fs), length-append (headBytes (f .head)) (typeBytes maxLevels (f .dataType)))
+
+pub columns-few : {s : Bytes} {place n first : ℕ} {x : Schema} → ColumnsAt s place x n first → n ≤ length s
+columns-few {s} {place} {n} {first} {x} c = omega (arith, c .count, each-column (x .columns), c .stands .inside)

@@ -3,20 +3,21 @@ use Prim.Native.Nat.{ℕ, _+_, _*_, _≤_}
 use native.Mathlib.Omega.{arith}
 use mathlib.Core.Path.{_≡_, refl, sym, ap, subst, _∙_}
 use mathlib.Core.List.{[], _∷_, _++_, append-assoc, append-nil}
-use lib.ListN.{length, drop, getD, length-append}
-use lib.Seq.{drop-drop, drop-append-seam, drop-length, getD-drop}
+use lib.ListN.{length, drop, getD, length-append, length-drop}
+use lib.Seq.{drop-drop, drop-append-seam, getD-drop}
 use Rattle.model.specs.Bytes.{Bytes, num, u16}
 use Rattle.walk.specs.Stands.{Stands, Skips}
 
+-- what follows a place stands there
+pub rest-stands : (s : Bytes) (place : ℕ) (b r : Bytes) → place ≤ length s → drop place s ≡ b ++ r → Stands s place b
+rest-stands s place b r h e = record {
+  inside = omega (arith, sym (length-drop place s) ∙ ap length e ∙ length-append b r);
+  bytes = e ∙ ap (λ x. b ++ x) (sym (sym (drop-drop (length b) place s) ∙ ap (drop (length b)) e ∙ drop-append-seam b r));
+}
+
 -- a whole list stands at its beginning
 pub whole-stands : (s b : Bytes) → s ≡ b → Stands s 0 b
-whole-stands s b e = subst (λ b. Stands s 0 b) e (record {
-  inside = omega arith;
-  bytes = sym (ap (λ r. s ++ r) (ap (λ n. drop n s) w ∙ drop-length s) ∙ append-nil s);
-})
-  where
-    w : 0 + length s ≡ length s
-    w = omega arith
+whole-stands s b e = rest-stands s 0 b [] (omega arith) (e ∙ sym (append-nil b))
 
 module _ {s : Bytes} {place : ℕ} where
   seam : (a b : Bytes) → Stands s place (a ++ b) → drop (place + length a) s ≡ b ++ drop (place + length (a ++ b)) s

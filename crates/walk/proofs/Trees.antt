@@ -2,44 +2,22 @@
 use Prim.Native.Nat.{ℕ, zero, suc, _-_, _≤_, _<_}
 use native.Mathlib.Omega.{arith}
 use mathlib.Core.Path.{_≡_, refl, sym, ap, subst, _∙_}
-use mathlib.Core.List.{List, [], _∷_}
-use lib.ListN.{length, getD}
-use Rattle.model.specs.Bytes.{Bytes, Every}
-use Rattle.model.specs.Tree.{DataType, Field, Children, layout}
+use mathlib.Core.List.{[], _∷_}
+use lib.ListN.{getD}
+use Rattle.model.specs.Bytes.{Bytes}
+use Rattle.model.specs.Tree.{Children, layout}
 use Rattle.model.specs.Tree.Children.{fields, keyAndValue, counted, countedWithIds}
-use Rattle.model.specs.Sheet.{each, fieldBytes, childrenBytes, typeBytes}
-use Rattle.model.specs.WellFormed.{WellFormedParams, CountFits, LaidOut}
-use Rattle.walk.specs.Stands.{Skips}
+use Rattle.model.specs.Sheet.{fieldBytes, childrenBytes, typeBytes}
+use Rattle.model.specs.WellFormed.{WellFormedParams, CountFits}
+use Rattle.walk.specs.Stands.{Skips, SkipsType, SkipsFields, memberBytes, SkipsMembers, SkipsChildren}
 use Rattle.layout.specs.Kinds.{childrenBy}
 use Rattle.walk.proofs.Standing.{byte-stands, skip-none, skip-ahead, skip-when, skip-join}
 use Rattle.walk.proofs.Parts.{Ahead, twoAt, list-skips}
 
--- what is said of each child
-abbrev pub Child : (l : ℕ) → Field l → Type 0
-Child l k = LaidOut l (k .dataType)
-
--- a union's child
-abbrev pub memberBytes : (l : ℕ) → Field l → Bytes
-memberBytes l k = k .head .typeId ∷ fieldBytes (typeBytes l) k
-
--- what the code's functions ensure of types, of fields one behind the other, of union children, and of the children of a type
-
-abbrev pub Type′ : Bytes → ℕ → ℕ → ℕ → Type 0
-Type′ s place levels r = (l : ℕ) (t : DataType l) → l ≤ levels → LaidOut l t → Skips s place (typeBytes l t) r
-
-abbrev Fields : Bytes → ℕ → ℕ → ℕ → ℕ → Type 0
-Fields s place count levels r = (l : ℕ) (ks : List (Field l)) → l ≤ levels → length ks ≡ count → Every (Child l) ks → Skips s place (each (fieldBytes (typeBytes l)) ks) r
-
-abbrev Members : Bytes → ℕ → ℕ → ℕ → ℕ → Type 0
-Members s place count levels r = (l : ℕ) (ks : List (Field l)) → l ≤ levels → length ks ≡ count → Every (Child l) ks → Skips s place (each (memberBytes l) ks) r
-
-abbrev Kids : Bytes → ℕ → Children → ℕ → ℕ → Type 0
-Kids s place k levels r = (l : ℕ) (ks : List (Field l)) → l ≤ levels → CountFits k ks → Every (Child l) ks → Skips s place (childrenBytes (typeBytes l) k ks) r
-
 module _ {s : Bytes} {place : ℕ} (levels : ℕ) where
   pub type-skips : {code params children r : ℕ} → code ≡ getD s place 0 → Ahead s place 1 params
       → ((b : Bytes) → WellFormedParams (layout code .params) b → Skips s params b children)
-      → Kids s children (layout code .children) (levels - 1) r → Type′ s place levels r
+      → SkipsChildren s children (layout code .children) (levels - 1) r → SkipsType s place levels r
   unfolding typeBytes
   type-skips e a f g zero t h w = absurd w
   type-skips {children = children} {r = r} e a f g (suc l) t h (p, n, q) =
@@ -51,7 +29,7 @@ module _ {s : Bytes} {place : ℕ} (levels : ℕ) where
       (g l (t .children) (omega arith) (subst (λ c. CountFits (layout c .children) (t .children)) (sym w) n) q)))
 
   -- no type is of no level
-  pub no-level : (r : ℕ) → levels ≤ 0 → Type′ s place levels r
+  pub no-level : (r : ℕ) → levels ≤ 0 → SkipsType s place levels r
   no-level r h zero t k w = absurd w
   no-level r h (suc l) t k w = absurd (omega (arith, h, k))
 
@@ -74,27 +52,27 @@ last-kind (suc (suc (suc (suc zero)))) h a b = absurd (b refl)
 last-kind (suc (suc (suc (suc (suc k))))) h a b = refl
 
 module _ {s : Bytes} {place : ℕ} (levels code : ℕ) {k j : ℕ} (e : k ≡ j) (d : childrenBy j ≡ layout code .children) where
-  abbrev by-kind : (c : Children) (r : ℕ) → childrenBy k ≡ c → Kids s place c levels r → Kids s place (layout code .children) levels r
-  by-kind c r h g = subst (λ c. Kids s place c levels r) (sym h ∙ ap childrenBy e ∙ d) g
+  abbrev by-kind : (c : Children) (r : ℕ) → childrenBy k ≡ c → SkipsChildren s place c levels r → SkipsChildren s place (layout code .children) levels r
+  by-kind c r h g = subst (λ c. SkipsChildren s place c levels r) (sym h ∙ ap childrenBy e ∙ d) g
 
-  pub kids-fields : {r : ℕ} → k < 3 → Fields s place k levels r → Kids s place (layout code .children) levels r
+  pub kids-fields : {r : ℕ} → k < 3 → SkipsFields s place k levels r → SkipsChildren s place (layout code .children) levels r
   unfolding childrenBytes
   kids-fields {r} h f = by-kind (fields k) r (fields-kind k h) f
 
-  pub kids-types : {m r : ℕ} → k ≡ 3 → Type′ s place levels m → Type′ s m levels r → Kids s place (layout code .children) levels r
+  pub kids-types : {m r : ℕ} → k ≡ 3 → SkipsType s place levels m → SkipsType s m levels r → SkipsChildren s place (layout code .children) levels r
   unfolding childrenBytes childrenBy
   kids-types {m} {r} h f g = by-kind keyAndValue r (ap childrenBy h) go
     where
-      go : Kids s place keyAndValue levels r
+      go : SkipsChildren s place keyAndValue levels r
       go l [] b n q = absurd (omega (arith, n))
       go l (x ∷ []) b n q = absurd (omega (arith, n))
       go l (x ∷ y ∷ []) b n q = skip-join (f l (x .dataType) b (q .0)) (skip-join (g l (y .dataType) b (q .1 .0)) skip-none)
       go l (x ∷ y ∷ z ∷ ks) b n q = absurd (omega (arith, n))
 
-  pub kids-counted : {first n r : ℕ} → k ≡ 4 → Ahead s place 2 first → n ≡ twoAt s place → Fields s first n levels r → Kids s place (layout code .children) levels r
+  pub kids-counted : {first n r : ℕ} → k ≡ 4 → Ahead s place 2 first → n ≡ twoAt s place → SkipsFields s first n levels r → SkipsChildren s place (layout code .children) levels r
   unfolding childrenBytes childrenBy
   kids-counted {r = r} h a i f = by-kind counted r (ap childrenBy h) (λ l ks b n q. list-skips (fieldBytes (typeBytes l)) a i ks (λ c. f l ks b c q))
 
-  pub kids-members : {first n r : ℕ} → 3 ≤ k → (k ≡ 3 → ⊥) → (k ≡ 4 → ⊥) → Ahead s place 2 first → n ≡ twoAt s place → Members s first n levels r → Kids s place (layout code .children) levels r
+  pub kids-members : {first n r : ℕ} → 3 ≤ k → (k ≡ 3 → ⊥) → (k ≡ 4 → ⊥) → Ahead s place 2 first → n ≡ twoAt s place → SkipsMembers s first n levels r → SkipsChildren s place (layout code .children) levels r
   unfolding childrenBytes
   kids-members {r = r} h o u a i f = by-kind countedWithIds r (last-kind k h o u) (λ l ks b n q. list-skips (memberBytes l) a i ks (λ c. f l ks b c q))

@@ -1,20 +1,33 @@
 // Going over a sheet that has been read, part by part: document 01, "The sheet", and `DataType::is_nested` of datatype.rs.
-// Nothing here tests the format again. Each function takes any bytes and any place, and says what it gives where the part
-// stands there: the place behind it. What the bytes say else is of no use, but never out of bounds.
+// Nothing here tests the format again. Each function takes any bytes and any place; where the part that it is for stands
+// there, it gives the place behind it. On other bytes its answer means nothing, but nothing goes out of bounds.
 ghost use mathlib.Core.Path.{_≡_};
-ghost use mathlib.Core.List.{List, _∷_, _++_};
-ghost use mathlib.Core.Bool.{Bool};
-ghost use Prim.Native.Nat.{ℕ, _+_, _*_, _<_, _≤_};
+ghost use mathlib.Core.List.{_++_};
+ghost use Prim.Native.Nat.{_+_, _*_, _<_, _≤_};
 ghost use lib.ListN.{length, getD};
-ghost use Rattle.model.specs.Bytes.{Bytes, Metadata, Every, num};
-ghost use Rattle.model.specs.Tree.{Head, DataType, Field, Schema, layout};
-ghost use Rattle.model.specs.Sheet.{each, withCount, part, stands, textBytes, pairBytes, headBytes, fieldBytes, childrenBytes, typeBytes, sheetBytes};
+ghost use Rattle.model.specs.Bytes.{Bytes, Metadata, num};
+ghost use Rattle.model.specs.Tree.{Head, Schema, layout};
 ghost use Rattle.model.specs.Tree.Params.{timestamp};
-ghost use Rattle.model.specs.WellFormed.{WellFormedZone, WellFormedParams, CountFits, LaidOut};
-ghost use Rattle.model.specs.Datatype.{holdsFields, isNested};
-ghost use Rattle.walk.specs.Stands.{Stands, Skips, ColumnsAt};
+ghost use Rattle.model.specs.Sheet.{each, withCount, part, stands, textBytes, pairBytes, headBytes, sheetBytes};
+ghost use Rattle.model.specs.WellFormed.{WellFormedZone, WellFormedParams};
+ghost use Rattle.model.specs.Datatype.{holdsFields};
+ghost use Rattle.walk.specs.Stands.{Stands, Skips, SkipsType, SkipsField, SkipsFields, SkipsMembers, SkipsChildren, TellsNested, ColumnsAt, SkipsSheet};
 ghost use Rattle.layout.specs.Kinds.{paramsBy};
 ghost use Rattle.walk.specs.Widths.{width};
+
+// The levels that a column may have, the column and its type being the first.
+pub const LEVELS: usize = 32;
+
+// Codes that `is_nested` speaks of, in the order of `DataType`.
+const LIST: usize = 27;
+
+const UNION: usize = 33;
+
+const DICTIONARY: usize = 34;
+
+const MAP: usize = 39;
+
+const RUN_END_ENCODED: usize = 40;
 
 // A byte as a number of places.
 fn wide(x: u8) -> usize
@@ -169,14 +182,14 @@ pub fn skip_params(s: &[u8], at: usize, code: usize) -> usize
 
 // A field of at most so many levels.
 pub fn skip_field(s: &[u8], at: usize, levels: usize) -> usize
-    ensures { λ r. ⌜ ((l : ℕ) (f : Field l) → l ≤ levels → LaidOut l (f .dataType) → Skips (now (s .entry)) at (fieldBytes (typeBytes l) f) r) ⌝ }
+    ensures { λ r. ⌜ SkipsField (now (s .entry)) at levels r ⌝ }
 {
     skip_type(s, skip_head(s, at), levels)
 }
 
 // A type of at most so many levels, itself among them.
 pub fn skip_type(s: &[u8], at: usize, levels: usize) -> usize
-    ensures { λ r. ⌜ ((l : ℕ) (t : DataType l) → l ≤ levels → LaidOut l t → Skips (now (s .entry)) at (typeBytes l t) r) ⌝ }
+    ensures { λ r. ⌜ SkipsType (now (s .entry)) at levels r ⌝ }
 {
     if levels <= 0 {
         return at;
@@ -189,7 +202,7 @@ pub fn skip_type(s: &[u8], at: usize, levels: usize) -> usize
 
 // The children of a type.
 fn skip_children(s: &[u8], at: usize, code: usize, levels: usize) -> usize
-    ensures { λ r. ⌜ ((l : ℕ) (ks : List (Field l)) → l ≤ levels → CountFits (layout code .children) ks → Every (λ k. LaidOut l (k .dataType)) ks → Skips (now (s .entry)) at (childrenBytes (typeBytes l) (layout code .children) ks) r) ⌝ }
+    ensures { λ r. ⌜ SkipsChildren (now (s .entry)) at (layout code .children) levels r ⌝ }
 {
     let kind = wide(layout::children_kind(code));
     if kind < 3 {
@@ -207,7 +220,7 @@ fn skip_children(s: &[u8], at: usize, code: usize, levels: usize) -> usize
 
 // So many fields, one behind the other.
 pub fn skip_fields(s: &[u8], at: usize, count: usize, levels: usize) -> usize
-    ensures { λ r. ⌜ ((l : ℕ) (ks : List (Field l)) → l ≤ levels → length ks ≡ count → Every (λ k. LaidOut l (k .dataType)) ks → Skips (now (s .entry)) at (each (fieldBytes (typeBytes l)) ks) r) ⌝ }
+    ensures { λ r. ⌜ SkipsFields (now (s .entry)) at count levels r ⌝ }
 {
     let mut place = at;
     let mut left = count;
@@ -220,7 +233,7 @@ pub fn skip_fields(s: &[u8], at: usize, count: usize, levels: usize) -> usize
 
 // So many union children, each an id and a field.
 pub fn skip_members(s: &[u8], at: usize, count: usize, levels: usize) -> usize
-    ensures { λ r. ⌜ ((l : ℕ) (ks : List (Field l)) → l ≤ levels → length ks ≡ count → Every (λ k. LaidOut l (k .dataType)) ks → Skips (now (s .entry)) at (each (λ k. k .head .typeId ∷ fieldBytes (typeBytes l) k) ks) r) ⌝ }
+    ensures { λ r. ⌜ SkipsMembers (now (s .entry)) at count levels r ⌝ }
 {
     let mut place = at;
     let mut left = count;
@@ -257,33 +270,43 @@ pub fn find_columns(s: &[u8], at: usize) -> Columns
     }
 }
 
+// A sheet, as it stands in a train.
+pub fn skip_sheet(s: &[u8], at: usize) -> usize
+    ensures { λ r. ⌜ SkipsSheet (now (s .entry)) at r ⌝ }
+{
+    let columns = find_columns(s, at);
+    let first = columns.at;
+    let count = columns.count;
+    skip_fields(s, first, count, LEVELS)
+}
+
 // Whether a type of this code holds fields of the column's own values.
 fn holds_fields(code: usize) -> bool
     ensures { λ r. ⌜ r ≡ holdsFields code ⌝ }
 {
-    if code < 27 {
+    if code < LIST {
         return false;
     }
-    if code <= 33 {
+    if code <= UNION {
         return true;
     }
-    code == 39
+    code == MAP
 }
 
 // `DataType::is_nested`, for a type of at most so many levels that stands at a place. A Dictionary takes the verdict of its
 // value type, RunEndEncoded that of its values.
 pub fn is_nested(s: &[u8], at: usize, levels: usize) -> bool
-    ensures { λ r. ⌜ ((l : ℕ) (t : DataType l) → l ≤ levels → LaidOut l t → Stands (now (s .entry)) at (typeBytes l t) → r ≡ isNested l t) ⌝ }
+    ensures { λ r. ⌜ TellsNested (now (s .entry)) at levels r ⌝ }
 {
     if levels <= 0 {
         return false;
     }
     let code = byte(s, at);
     let first = ahead(s, at, 1);
-    if code == 34 {
+    if code == DICTIONARY {
         return is_nested(s, skip_type(s, first, levels - 1), levels - 1);
     }
-    if code == 40 {
+    if code == RUN_END_ENCODED {
         let values = skip_field(s, first, levels - 1);
         return is_nested(s, skip_head(s, values), levels - 1);
     }

@@ -3,10 +3,13 @@ use native.Mathlib.Omega.{arith}
 use mathlib.Core.Path.{refl}
 use mathlib.Core.List.{[], _∷_}
 use Prim.Native.Nat.{ℕ, _≤_, _<_, _+_, _*_}
+use Rattle.model.specs.Tree.{Field}
 use Rattle.model.specs.Sheet.{fieldBytes, typeBytes}
+use Rattle.model.specs.WellFormed.{LaidOut}
+use Rattle.walk.specs.Stands.{memberBytes}
 use Rattle.walk.proofs.Standing.{skip-ahead, skip-join}
 use Rattle.walk.proofs.Turns.{Turns, turns-begin, turns-again, turns-done}
-use Rattle.walk.proofs.Trees.{Child, memberBytes, type-skips, no-level, kids-fields, kids-types, kids-counted, kids-members}
+use Rattle.walk.proofs.Trees.{type-skips, no-level, kids-fields, kids-types, kids-counted, kids-members}
 use borrow.Fn.Kinds.{In}
 use borrow.Fn.PlainCycle.{Measures, is, falls, and}
 use Rattle.walk.proofs.skip_children.Reads as skip-children
@@ -123,7 +126,7 @@ unfolding fieldBytes
 skip-field-returns t c = λ l f h w. skip-join (c .before .skip-head .ensures (f .head)) (c .skip-type .ensures l (f .dataType) h w)
 
 abbrev skip-fields-Inv-loop : skip-fields-lts.InvT-loop
-skip-fields-Inv-loop s at count levels place₀ left₀ place left = (l : ℕ) → l ≤ levels → Turns (Child l) (fieldBytes (typeBytes l)) s at count place left
+skip-fields-Inv-loop s at count levels place₀ left₀ place left = (l : ℕ) → l ≤ levels → Turns {A = Field l} (λ k. LaidOut l (k .dataType)) (fieldBytes (typeBytes l)) s at count place left
 
 abbrev skip-fields-μ-loop : skip-fields-lts.MeasureT-loop
 skip-fields-μ-loop s at count levels place₀ left₀ place left = left
@@ -144,7 +147,7 @@ skip-fields-returns : (t : ℕ) → skip-fields-lts.Need-returns (skip-fields-ca
 skip-fields-returns t c = λ l ks h e w. turns-done _ _ _ (c .before .loop .inv l h) (c .loop-test .left) ks e w
 
 abbrev skip-members-Inv-loop : skip-members-lts.InvT-loop
-skip-members-Inv-loop s at count levels place₀ left₀ place left = (l : ℕ) → l ≤ levels → Turns (Child l) (memberBytes l) s at count place left
+skip-members-Inv-loop s at count levels place₀ left₀ place left = (l : ℕ) → l ≤ levels → Turns {A = Field l} (λ k. LaidOut l (k .dataType)) (memberBytes l) s at count place left
 
 abbrev skip-members-μ-loop : skip-members-lts.MeasureT-loop
 skip-members-μ-loop s at count levels place₀ left₀ place left = left

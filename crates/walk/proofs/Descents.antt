@@ -1,0 +1,58 @@
+-- From a part of a sheet to the parts in it, by the places that the code's steps give: what a caller of `walk` goes down with.
+use Prim.Native.Nat.{ℕ, suc}
+use mathlib.Core.Path.{_≡_, refl, sym, subst, _∙_}
+use mathlib.Core.List.{List, [], _∷_, _++_}
+use lib.ListN.{length, getD}
+use Rattle.model.specs.Bytes.{Bytes, u16}
+use Rattle.model.specs.Tree.{Head, DataType, Field, layout}
+use Rattle.model.specs.Sheet.{each, withCount, headBytes, fieldBytes, childrenBytes, typeBytes}
+use Rattle.model.specs.WellFormed.{WellFormedParams, LaidOut}
+use Rattle.model.proofs.Lists.{each-append}
+use Rattle.walk.specs.Stands.{Stands, Skips}
+use Rattle.walk.proofs.Standing.{first-stands, byte-stands, two-stands, num-u16, stands-behind, skip-ahead}
+use Rattle.walk.proofs.Parts.{Ahead, twoAt}
+
+module _ {s : Bytes} {place : ℕ} where
+  -- Fields
+
+  pub head-stands : (l : ℕ) (f : Field l) → Stands s place (fieldBytes (typeBytes l) f) → Stands s place (headBytes (f .head))
+  unfolding fieldBytes
+  head-stands l f st = first-stands (headBytes (f .head)) (typeBytes l (f .dataType)) st
+
+  -- a field's type stands behind its head
+  pub type-stands : (l : ℕ) (f : Field l) {m : ℕ} → ((h : Head) → Skips s place (headBytes h) m) → Stands s place (fieldBytes (typeBytes l) f) → Stands s m (typeBytes l (f .dataType))
+  unfolding fieldBytes
+  type-stands l f g st = stands-behind (g (f .head)) st
+
+  -- Types
+
+  pub code-stands : (l : ℕ) (t : DataType (suc l)) → Stands s place (typeBytes (suc l) t) → getD s place 0 ≡ t .code
+  unfolding typeBytes
+  code-stands l t st = byte-stands st
+
+  -- a type's children stand behind its code and its parameters
+  pub children-stand : (l : ℕ) (t : DataType (suc l)) (code : ℕ) {params m : ℕ} → code ≡ getD s place 0 → Ahead s place 1 params
+      → ((b : Bytes) → WellFormedParams (layout code .params) b → Skips s params b m)
+      → LaidOut (suc l) t → Stands s place (typeBytes (suc l) t) → Stands s m (childrenBytes (typeBytes l) (layout (t .code) .children) (t .children))
+  unfolding typeBytes
+  children-stand l t code e a f w st =
+      let d = e ∙ byte-stands st in
+      stands-behind (f (t .params) (subst (λ c. WellFormedParams (layout c .params) (t .params)) (sym d) (w .0)))
+      (stands-behind (skip-ahead (t .code ∷ []) refl (a .1)) st)
+
+  -- Lists
+
+  module _ {A : Type 0} (f : A → Bytes) where
+    -- the count of a list
+    pub count-stands : (xs : List A) → Stands s place (withCount f xs) → twoAt s place ≡ length xs
+    unfolding withCount u16
+    count-stands xs st = two-stands (u16 (length xs)) (each f xs) refl st ∙ num-u16 (length xs)
+
+    -- its elements stand behind the count
+    pub elements-stand : (xs : List A) {m : ℕ} → Ahead s place 2 m → Stands s place (withCount f xs) → Stands s m (each f xs)
+    unfolding withCount u16
+    elements-stand xs a st = stands-behind (skip-ahead (u16 (length xs)) refl (a .1)) st
+
+    -- those behind the first ones
+    pub others-stand : (xs ys : List A) {m : ℕ} → Skips s place (each f xs) m → Stands s place (each f (xs ++ ys)) → Stands s m (each f ys)
+    others-stand xs ys p st = stands-behind p (subst (Stands s place) (each-append f xs ys) st)
