@@ -77,3 +77,11 @@ each-column (f ∷ fs) = omega (arith, each-column fs, length-append (columnByte
 
 pub columns-few : {s : Bytes} {place n first : ℕ} {x : Schema} → ColumnsAt s place x n first → n ≤ length s
 columns-few {s} {place} {n} {first} {x} c = omega (arith, c .count, each-column (x .columns), c .stands .inside)
+
+pub sheet-columns : (x : Schema) → length (x .columns) ≤ length (sheetBytes x)
+unfolding sheetBytes withCount u16
+sheet-columns x = go (x .columns)
+  where
+    go : (cs : List (Field maxLevels)) → length cs ≤ length (sheetBytes (record { metadata = x .metadata; columns = cs }))
+    go [] = omega arith
+    go (c ∷ cs) = omega (arith, each-column (c ∷ cs), length-append (part (withCount pairBytes) (x .metadata)) (withCount columnBytes (c ∷ cs)))

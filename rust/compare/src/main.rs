@@ -2,7 +2,8 @@
 //! compares number, place, length, and every byte of both buffers at exit.
 //!
 //! First the fixed list, then all that is short, then COUNT random requests for each
-//! operation, with fixed seeds. It prints how often each number came up at each operation.
+//! operation, with fixed seeds. The operations are those that the library has, or with
+//! `--oracle` all of them. It prints how often each number came up at each operation.
 //! Status 0 and the last line `compare: N requests, no difference` where both sides agree;
 //! status 1 and the first difference where they do not, or where, in a run of at least the
 //! default count, a number that an operation can give never came up.
@@ -82,9 +83,21 @@ impl Options {
         })
     }
 
+    /// Whether the second side is the library, with a fault put on it or not.
+    fn asks_the_library(&self) -> bool {
+        cfg!(feature = "linked") && !self.oracle
+    }
+
+    /// The operations that are compared: all that the second side has.
+    fn operations(&self) -> Vec<Operation> {
+        let mut operations = Operation::ALL.to_vec();
+        operations.retain(|operation| operation.linked() || !self.asks_the_library());
+        operations
+    }
+
     /// Says what is compared with what.
     fn headline(&self) -> String {
-        let second = match cfg!(feature = "linked") && !self.oracle {
+        let second = match self.asks_the_library() {
             true => "the linked library",
             false => "itself, which shows nothing of the port",
         };
@@ -114,8 +127,8 @@ fn main() -> ExitCode {
         return ExitCode::from(2);
     }
     println!("{}", options.headline());
-    let operations = Operation::of_this_build();
-    let jobs = jobs::plan(operations, options.count, options.longest);
+    let operations = options.operations();
+    let jobs = jobs::plan(&operations, options.count, options.longest);
     let side = || options.side().expect("it was there before");
     let (tally, difference) = jobs::run(&jobs, options.threads(), &side);
     print!("{tally}");
@@ -123,7 +136,7 @@ fn main() -> ExitCode {
         println!("the first difference:\n{difference}compare: the sides differ");
         return ExitCode::FAILURE;
     }
-    if !judge(&tally, operations, options.count >= DEFAULT_COUNT) {
+    if !judge(&tally, &operations, options.count >= DEFAULT_COUNT) {
         return ExitCode::FAILURE;
     }
     println!("compare: {} requests, no difference", tally.requests());
@@ -179,6 +192,17 @@ mod tests {
             "--help",
         ] {
             assert_eq!(parsed(wrong), None, "{wrong}");
+        }
+    }
+
+    #[test]
+    fn the_oracle_is_asked_for_all_and_the_library_for_what_is_linked() {
+        assert_eq!(parsed("--oracle").unwrap().operations(), Operation::ALL);
+        let operations = parsed("").unwrap().operations();
+        let linked = Operation::ALL.into_iter().filter(|one| one.linked());
+        match cfg!(feature = "linked") {
+            true => assert_eq!(operations, linked.collect::<Vec<_>>()),
+            false => assert_eq!(linked.count(), 0),
         }
     }
 

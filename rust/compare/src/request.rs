@@ -67,13 +67,17 @@ impl Operation {
         Self::Normalize,
     ];
 
-    /// The operations of this build: those that write a sheet need the feature `writing`.
-    pub(crate) fn of_this_build() -> &'static [Self] {
-        const { assert!(matches!(Self::ALL[8], Self::Merge)) };
-        if cfg!(feature = "writing") {
-            &Self::ALL
-        } else {
-            &Self::ALL[..8]
+    /// Whether this build links the call.
+    pub(crate) const fn linked(self) -> bool {
+        match self {
+            Self::IsNested | Self::IndexOf | Self::TryNew | Self::TryFromFields => {
+                cfg!(feature = "linked")
+            }
+            Self::FlattenedFields => cfg!(feature = "flattening"),
+            Self::Equal | Self::EqualsDatatype | Self::Contains => cfg!(feature = "comparing"),
+            Self::Merge | Self::Project | Self::ProjectStrict | Self::Filter | Self::Normalize => {
+                cfg!(feature = "writing")
+            }
         }
     }
 

@@ -46,12 +46,16 @@ impl Side for Library {
         let exit = match request.operation {
             Operation::IsNested => sheets::is_nested(first, work, answer),
             Operation::IndexOf => sheets::index_of(first, second, work, answer),
-            Operation::FlattenedFields => sheets::flattened_fields(first, work, answer),
-            Operation::Equal => sheets::equal(first, second, work, answer),
-            Operation::EqualsDatatype => sheets::equals_datatype(first, second, work, answer),
-            Operation::Contains => sheets::contains(first, second, work, answer),
             Operation::TryNew => sheets::try_new(first, number, answer),
             Operation::TryFromFields => sheets::try_from_fields(number, answer),
+            #[cfg(feature = "flattening")]
+            Operation::FlattenedFields => sheets::flattened_fields(first, work, answer),
+            #[cfg(feature = "comparing")]
+            Operation::Equal => sheets::equal(first, second, work, answer),
+            #[cfg(feature = "comparing")]
+            Operation::EqualsDatatype => sheets::equals_datatype(first, second, work, answer),
+            #[cfg(feature = "comparing")]
+            Operation::Contains => sheets::contains(first, second, work, answer),
             #[cfg(feature = "writing")]
             Operation::Merge => sheets::merge(first, work, answer),
             #[cfg(feature = "writing")]
@@ -62,8 +66,8 @@ impl Side for Library {
             Operation::Filter => sheets::filter(first, second, work, answer),
             #[cfg(feature = "writing")]
             Operation::Normalize => sheets::normalize(first, second, number, work, answer),
-            #[cfg(not(feature = "writing"))]
-            _ => panic!("{} needs the feature writing", request.operation.name()),
+            #[cfg(not(all(feature = "flattening", feature = "comparing", feature = "writing")))]
+            _ => panic!("{} is not linked", request.operation.name()),
         };
         Exit {
             number: exit.number,

@@ -27,8 +27,8 @@ fn two_sides_that_agree_end_well() {
         .strip_prefix("compare: ")
         .and_then(|rest| rest.strip_suffix(" requests, no difference"))
         .unwrap_or_else(|| panic!("{last}"));
-    assert!(count.parse::<u64>().unwrap() > 8 * 300);
-    for operation in ["is_nested", "contains", "try_from_fields"] {
+    assert!(count.parse::<u64>().unwrap() > 13 * 300);
+    for operation in ["is_nested", "contains", "try_from_fields", "normalize"] {
         assert!(text.contains(operation), "{text}");
     }
 }
@@ -73,7 +73,20 @@ fn without_the_library_nothing_is_claimed() {
 #[test]
 fn the_library_agrees_on_a_short_run() {
     let output = compare("300 --short 1");
-    assert!(output.status.success(), "{}", printed(&output));
+    let text = printed(&output);
+    assert!(output.status.success(), "{text}");
+    for (operation, linked) in [
+        ("is_nested ", true),
+        ("index_of ", true),
+        ("try_new ", true),
+        ("try_from_fields ", true),
+        ("flattened_fields ", cfg!(feature = "flattening")),
+        ("equal ", cfg!(feature = "comparing")),
+        ("merge ", cfg!(feature = "writing")),
+    ] {
+        let compared = text.lines().any(|line| line.starts_with(operation));
+        assert_eq!(compared, linked, "{operation}\n{text}");
+    }
 }
 
 #[cfg(feature = "linked")]

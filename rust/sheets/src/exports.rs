@@ -5,6 +5,8 @@
 //! constant slices, reads and writes those of the two buffers, sets both numbers, and keeps
 //! no pointer. So a call is sound where every pointer is that of a live slice of its length
 //! and no buffer overlaps anything else, which `&[u8]` and `&mut [u8]` say.
+//!
+//! Each block is the group of a feature, since the library gets its exports group by group.
 
 unsafe extern "C" {
     pub(crate) fn sheets_is_nested(
@@ -31,6 +33,27 @@ unsafe extern "C" {
         length: *mut usize,
     ) -> u8;
 
+    pub(crate) fn sheets_try_new(
+        ids: *const u8,
+        ids_length: usize,
+        count: u16,
+        answer: *mut u8,
+        answer_length: usize,
+        place: *mut usize,
+        length: *mut usize,
+    ) -> u8;
+
+    pub(crate) fn sheets_try_from_fields(
+        count: u16,
+        answer: *mut u8,
+        answer_length: usize,
+        place: *mut usize,
+        length: *mut usize,
+    ) -> u8;
+}
+
+#[cfg(feature = "flattening")]
+unsafe extern "C" {
     pub(crate) fn sheets_flattened_fields(
         sheet: *const u8,
         sheet_length: usize,
@@ -41,7 +64,10 @@ unsafe extern "C" {
         place: *mut usize,
         length: *mut usize,
     ) -> u8;
+}
 
+#[cfg(feature = "comparing")]
+unsafe extern "C" {
     pub(crate) fn sheets_equal(
         sheet: *const u8,
         sheet_length: usize,
@@ -75,24 +101,6 @@ unsafe extern "C" {
         other_length: usize,
         work: *mut u8,
         work_length: usize,
-        answer: *mut u8,
-        answer_length: usize,
-        place: *mut usize,
-        length: *mut usize,
-    ) -> u8;
-
-    pub(crate) fn sheets_try_new(
-        ids: *const u8,
-        ids_length: usize,
-        count: u16,
-        answer: *mut u8,
-        answer_length: usize,
-        place: *mut usize,
-        length: *mut usize,
-    ) -> u8;
-
-    pub(crate) fn sheets_try_from_fields(
-        count: u16,
         answer: *mut u8,
         answer_length: usize,
         place: *mut usize,

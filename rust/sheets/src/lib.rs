@@ -21,22 +21,28 @@
 //! ```
 //!
 //! The feature `linked` links target/staticlib/libexports.a of the repository, which
-//! `rt staticlib exports` makes; without it only [`Exit`] is here. The feature `writing` adds
-//! the calls that write a sheet.
+//! `rt staticlib exports` makes; without it only [`Exit`] is here. It gives the first group of
+//! calls; the others have a feature each, since the library gets its exports group by group.
+//! Cargo.toml says which group has which.
 
 #[cfg(feature = "linked")]
 mod calls;
+#[cfg(feature = "comparing")]
+mod comparing;
 #[cfg(feature = "linked")]
 mod exports;
-#[cfg(all(feature = "linked", feature = "writing"))]
+#[cfg(feature = "flattening")]
+mod flattening;
+#[cfg(feature = "writing")]
 mod writing;
 
 #[cfg(feature = "linked")]
-pub use calls::{
-    contains, equal, equals_datatype, flattened_fields, index_of, is_nested, try_from_fields,
-    try_new,
-};
-#[cfg(all(feature = "linked", feature = "writing"))]
+pub use calls::{index_of, is_nested, try_from_fields, try_new};
+#[cfg(feature = "comparing")]
+pub use comparing::{contains, equal, equals_datatype};
+#[cfg(feature = "flattening")]
+pub use flattening::flattened_fields;
+#[cfg(feature = "writing")]
 pub use writing::{filter, merge, normalize, project, project_strict};
 
 /// What a call gives beside its buffers.

@@ -49,6 +49,12 @@ fn is_nested() {
         sheets::is_nested(&SHEET, work, answer)
     });
     assert_eq!(got, (exit(32, 0, 0), vec![170, 170]));
+    for sheet in [PLAIN, OTHER] {
+        let got = with(32, 1, |work, answer| {
+            sheets::is_nested(&sheet, work, answer)
+        });
+        assert_eq!(got, (exit(0, 0, 1), vec![0]));
+    }
 }
 
 #[test]
@@ -65,6 +71,7 @@ fn index_of() {
     assert_eq!(find(b"v", 1), (exit(31, 0, 0), vec![170]));
 }
 
+#[cfg(feature = "flattening")]
 #[test]
 fn flattened_fields() {
     let sheet = &SHEET[..LENGTH];
@@ -74,6 +81,7 @@ fn flattened_fields() {
     assert_eq!(got, (exit(0, 0, 6), vec![2, 0, 3, 0, 8, 0, 170]));
 }
 
+#[cfg(feature = "comparing")]
 #[test]
 fn verdicts() {
     type Call = fn(&[u8], &[u8], &mut [u8], &mut [u8]) -> Exit;

@@ -1,0 +1,2 @@
+-- What the proofs of all exports use.
+pub mod Telling

@@ -1,0 +1,2 @@
+-- The definition that the contracts of `exports` cite.
+pub mod Told

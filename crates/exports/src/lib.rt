@@ -1,0 +1,76 @@
+// The calls for the Rust desk and for C. Document 01: "The desk program stays in Rust and calls in with numbers and byte slices". Each is
+// the call of its crate: the number is given back, place and length are written where the caller says, and the promise is the same.
+// A slice is a pointer and a length; include/sheets.h declares them for C.
+use buffer::Outcome;
+ghost use mathlib.Core.Path.{_≡_};
+ghost use mathlib.Core.List.{[]};
+ghost use Rattle.model.specs.Call.{isNestedCall, indexOfCall, tryNewCall, tryFromFieldsCall};
+ghost use Rattle.exports.specs.Told.{told};
+
+// Writes place and length, and gives the number.
+fn tell(outcome: Outcome, place: &mut usize, length: &mut usize) -> u8
+    ensures { λ r. ⌜ (r ≡ outcome .number) × (now (place .exit) ≡ outcome .place) × (now (length .exit) ≡ outcome .length) ⌝ }
+{
+    *place = outcome.place;
+    *length = outcome.length;
+    outcome.number
+}
+
+// Module 3: the two union numberings.
+#[no_mangle]
+pub extern "C" fn sheets_try_new(
+    ids: &[u8],
+    count: u16,
+    answer: &mut [u8],
+    place: &mut usize,
+    length: &mut usize,
+) -> u8
+    ensures { λ r. ⌜ told r (now (place .exit)) (now (length .exit)) (now (answer .exit)) [] ≡ tryNewCall (now (ids .entry)) count (now (answer .entry)) ⌝ }
+{
+    let outcome = unions::try_new(ids, count, answer);
+    tell(outcome, place, length)
+}
+
+#[no_mangle]
+pub extern "C" fn sheets_try_from_fields(
+    count: u16,
+    answer: &mut [u8],
+    place: &mut usize,
+    length: &mut usize,
+) -> u8
+    ensures { λ r. ⌜ told r (now (place .exit)) (now (length .exit)) (now (answer .exit)) [] ≡ tryFromFieldsCall count (now (answer .entry)) ⌝ }
+{
+    let outcome = unions::try_from_fields(count, answer);
+    tell(outcome, place, length)
+}
+
+// Module 2: types.
+#[no_mangle]
+pub extern "C" fn sheets_is_nested(
+    sheet: &[u8],
+    work: &mut [u8],
+    answer: &mut [u8],
+    place: &mut usize,
+    length: &mut usize,
+) -> u8
+    ensures { λ r. ⌜ told r (now (place .exit)) (now (length .exit)) (now (answer .exit)) (now (work .exit)) ≡ isNestedCall (now (sheet .entry)) (now (work .entry)) (now (answer .entry)) ⌝ }
+{
+    let outcome = datatype::is_nested(sheet, work, answer);
+    tell(outcome, place, length)
+}
+
+// Module 5: schemas.
+#[no_mangle]
+pub extern "C" fn sheets_index_of(
+    sheet: &[u8],
+    name: &[u8],
+    work: &mut [u8],
+    answer: &mut [u8],
+    place: &mut usize,
+    length: &mut usize,
+) -> u8
+    ensures { λ r. ⌜ told r (now (place .exit)) (now (length .exit)) (now (answer .exit)) (now (work .exit)) ≡ indexOfCall (now (sheet .entry)) (now (name .entry)) (now (work .entry)) (now (answer .entry)) ⌝ }
+{
+    let outcome = schema::index_of(sheet, name, work, answer);
+    tell(outcome, place, length)
+}
