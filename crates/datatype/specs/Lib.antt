@@ -1,0 +1,2 @@
+-- What the contracts of `datatype` cite beside the model's definitions.
+pub mod Children

@@ -8,6 +8,7 @@ pub mod Steps
 pub mod Gives
 pub mod Layouts
 pub mod Equivalences
+pub mod SameBytes
 pub mod Flags
 -- P1 to P12
 pub mod Trials
@@ -15,6 +16,7 @@ pub mod Trials
 pub mod Items
 pub mod Exact
 pub mod WellFormed
+pub mod Whole
 pub mod ReadsBack
 pub mod WholeSheets
 -- calls

@@ -70,11 +70,11 @@ impl Operation {
     /// Whether this build links the call.
     pub(crate) const fn linked(self) -> bool {
         match self {
-            Self::IsNested | Self::IndexOf | Self::TryNew | Self::TryFromFields => {
+            Self::IsNested | Self::Equal | Self::IndexOf | Self::TryNew | Self::TryFromFields => {
                 cfg!(feature = "linked")
             }
             Self::FlattenedFields => cfg!(feature = "flattening"),
-            Self::Equal | Self::EqualsDatatype | Self::Contains => cfg!(feature = "comparing"),
+            Self::EqualsDatatype | Self::Contains => cfg!(feature = "comparing"),
             Self::Merge | Self::Project | Self::ProjectStrict | Self::Filter | Self::Normalize => {
                 cfg!(feature = "writing")
             }

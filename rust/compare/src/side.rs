@@ -45,13 +45,12 @@ impl Side for Library {
         let (first, second, number) = (&request.first[..], &request.second[..], request.number);
         let exit = match request.operation {
             Operation::IsNested => sheets::is_nested(first, work, answer),
+            Operation::Equal => sheets::equal(first, second, work, answer),
             Operation::IndexOf => sheets::index_of(first, second, work, answer),
             Operation::TryNew => sheets::try_new(first, number, answer),
             Operation::TryFromFields => sheets::try_from_fields(number, answer),
             #[cfg(feature = "flattening")]
             Operation::FlattenedFields => sheets::flattened_fields(first, work, answer),
-            #[cfg(feature = "comparing")]
-            Operation::Equal => sheets::equal(first, second, work, answer),
             #[cfg(feature = "comparing")]
             Operation::EqualsDatatype => sheets::equals_datatype(first, second, work, answer),
             #[cfg(feature = "comparing")]

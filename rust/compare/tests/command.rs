@@ -77,11 +77,12 @@ fn the_library_agrees_on_a_short_run() {
     assert!(output.status.success(), "{text}");
     for (operation, linked) in [
         ("is_nested ", true),
+        ("equal ", true),
         ("index_of ", true),
         ("try_new ", true),
         ("try_from_fields ", true),
         ("flattened_fields ", cfg!(feature = "flattening")),
-        ("equal ", cfg!(feature = "comparing")),
+        ("contains ", cfg!(feature = "comparing")),
         ("merge ", cfg!(feature = "writing")),
     ] {
         let compared = text.lines().any(|line| line.starts_with(operation));

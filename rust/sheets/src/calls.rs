@@ -72,3 +72,25 @@ pub fn try_from_fields(count: u16, answer: &mut [u8]) -> Exit {
         }
     })
 }
+
+/// Whether the columns of two sheets are equal: writes one byte. Order flags and schema
+/// metadata do not count.
+pub fn equal(sheet: &[u8], other: &[u8], work: &mut [u8], answer: &mut [u8]) -> Exit {
+    exit(|place, length| {
+        // SAFETY: each pointer is that of a live slice of that length; no buffer overlaps another.
+        unsafe {
+            exports::sheets_equal(
+                sheet.as_ptr(),
+                sheet.len(),
+                other.as_ptr(),
+                other.len(),
+                work.as_mut_ptr(),
+                work.len(),
+                answer.as_mut_ptr(),
+                answer.len(),
+                place,
+                length,
+            )
+        }
+    })
+}

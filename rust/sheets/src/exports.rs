@@ -20,6 +20,19 @@ unsafe extern "C" {
         length: *mut usize,
     ) -> u8;
 
+    pub(crate) fn sheets_equal(
+        sheet: *const u8,
+        sheet_length: usize,
+        other: *const u8,
+        other_length: usize,
+        work: *mut u8,
+        work_length: usize,
+        answer: *mut u8,
+        answer_length: usize,
+        place: *mut usize,
+        length: *mut usize,
+    ) -> u8;
+
     pub(crate) fn sheets_index_of(
         sheet: *const u8,
         sheet_length: usize,
@@ -68,19 +81,6 @@ unsafe extern "C" {
 
 #[cfg(feature = "comparing")]
 unsafe extern "C" {
-    pub(crate) fn sheets_equal(
-        sheet: *const u8,
-        sheet_length: usize,
-        other: *const u8,
-        other_length: usize,
-        work: *mut u8,
-        work_length: usize,
-        answer: *mut u8,
-        answer_length: usize,
-        place: *mut usize,
-        length: *mut usize,
-    ) -> u8;
-
     pub(crate) fn sheets_equals_datatype(
         sheet: *const u8,
         sheet_length: usize,

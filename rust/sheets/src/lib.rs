@@ -37,9 +37,9 @@ mod flattening;
 mod writing;
 
 #[cfg(feature = "linked")]
-pub use calls::{index_of, is_nested, try_from_fields, try_new};
+pub use calls::{equal, index_of, is_nested, try_from_fields, try_new};
 #[cfg(feature = "comparing")]
-pub use comparing::{contains, equal, equals_datatype};
+pub use comparing::{contains, equals_datatype};
 #[cfg(feature = "flattening")]
 pub use flattening::flattened_fields;
 #[cfg(feature = "writing")]

@@ -81,17 +81,27 @@ fn flattened_fields() {
     assert_eq!(got, (exit(0, 0, 6), vec![2, 0, 3, 0, 8, 0, 170]));
 }
 
+type Call = fn(&[u8], &[u8], &mut [u8], &mut [u8]) -> Exit;
+
+fn ask(call: Call, one: &[u8], other: &[u8]) -> (Exit, Vec<u8>) {
+    with(64, 1, |work, answer| call(one, other, work, answer))
+}
+
+#[test]
+fn equality() {
+    assert_eq!(ask(sheets::equal, &PLAIN, &PLAIN), (exit(0, 0, 1), vec![1]));
+    assert_eq!(ask(sheets::equal, &PLAIN, &OTHER), (exit(0, 0, 1), vec![0]));
+    assert_eq!(
+        ask(sheets::equal, &PLAIN, &PLAIN[..7]),
+        (exit(1, 15, 0), vec![170])
+    );
+}
+
 #[cfg(feature = "comparing")]
 #[test]
 fn verdicts() {
-    type Call = fn(&[u8], &[u8], &mut [u8], &mut [u8]) -> Exit;
-    let ask = |call: Call, one: &[u8], other: &[u8]| {
-        with(64, 1, |work, answer| call(one, other, work, answer))
-    };
     let yes = (exit(0, 0, 1), vec![1]);
     let no = (exit(0, 0, 1), vec![0]);
-    assert_eq!(ask(sheets::equal, &PLAIN, &PLAIN), yes);
-    assert_eq!(ask(sheets::equal, &PLAIN, &OTHER), no);
     assert_eq!(ask(sheets::equals_datatype, &PLAIN, &PLAIN), yes);
     assert_eq!(ask(sheets::equals_datatype, &PLAIN, &OTHER), no);
     assert_eq!(ask(sheets::contains, &OTHER, &PLAIN), yes);
