@@ -1,5 +1,5 @@
 -- A buffer that is written over: its length, nothing written, one stretch behind another, a store, a turn of a copying loop.
-use mathlib.Core.Path.{_≡_, _∙_}
+use mathlib.Core.Path.{_≡_, sym, ap, _∙_}
 use mathlib.Core.List.{[], _∷_, _++_, append-assoc}
 use Prim.Native.Nat.{ℕ, _+_, _≤_, _<_}
 use native.Mathlib.Nat.{add-zero, add-assoc, zero-add}
@@ -30,6 +30,21 @@ pasted-join d i s t j e h =
     let l : length (take i d ++ s) ≡ j = simp (length-append, length-take-le i d h) e in
     rw (← append-assoc (take i d) s, take-at (take i d ++ s) _ j l, e, ← drop-drop (length t) j, drop-at (take i d ++ s) _ j l, drop-drop, length-append, ← add-assoc, e)
     (simp append-assoc)
+
+-- one stretch before another, up to it, is one stretch
+pub pasted-front : (d s t : Bytes) (i : ℕ) → length s ≡ i → i ≤ length d → pasted (pasted d i t) 0 s ≡ pasted d 0 (s ++ t)
+unfolding pasted
+pasted-front d s t i e h =
+    let n : i + length t ≡ length (s ++ t) = omega (arith, e, length-append s t) in
+    pasted-zero (pasted d i t) s
+    ∙ ap (λ r. s ++ r) (drop-at (take i d) (t ++ drop (i + length t) d) (length s) (length-take-le i d h ∙ sym e))
+    ∙ sym (append-assoc s t (drop (i + length t) d))
+    ∙ ap (λ n. (s ++ t) ++ drop n d) n
+    ∙ sym (pasted-zero d (s ++ t))
+
+-- what was written at the start stands there
+pub take-pasted : (d s : Bytes) (n : ℕ) → n ≡ length s → take n (pasted d 0 s) ≡ s
+take-pasted d s n e = ap (take n) (pasted-zero d s) ∙ take-at s (drop (length s) d) n (sym e)
 
 -- one store
 pub pasted-byte : (d : Bytes) (i v : ℕ) → i < length d → set d i v ≡ pasted d i (v ∷ [])

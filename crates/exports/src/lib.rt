@@ -4,7 +4,7 @@
 use buffer::Outcome;
 ghost use mathlib.Core.Path.{_≡_};
 ghost use mathlib.Core.List.{[]};
-ghost use Rattle.model.specs.Call.{isNestedCall, equalCall, indexOfCall, tryNewCall, tryFromFieldsCall};
+ghost use Rattle.model.specs.Call.{isNestedCall, equalCall, indexOfCall, flattenedFieldsCall, tryNewCall, tryFromFieldsCall};
 ghost use Rattle.exports.specs.Told.{told};
 
 // Writes place and length, and gives the number.
@@ -87,5 +87,19 @@ pub extern "C" fn sheets_index_of(
     ensures { λ r. ⌜ told r (now (place .exit)) (now (length .exit)) (now (answer .exit)) (now (work .exit)) ≡ indexOfCall (now (sheet .entry)) (now (name .entry)) (now (work .entry)) (now (answer .entry)) ⌝ }
 {
     let outcome = schema::index_of(sheet, name, work, answer);
+    tell(outcome, place, length)
+}
+
+#[no_mangle]
+pub extern "C" fn sheets_flattened_fields(
+    sheet: &[u8],
+    work: &mut [u8],
+    answer: &mut [u8],
+    place: &mut usize,
+    length: &mut usize,
+) -> u8
+    ensures { λ r. ⌜ told r (now (place .exit)) (now (length .exit)) (now (answer .exit)) (now (work .exit)) ≡ flattenedFieldsCall (now (sheet .entry)) (now (work .entry)) (now (answer .entry)) ⌝ }
+{
+    let outcome = schema::flattened_fields(sheet, work, answer);
     tell(outcome, place, length)
 }

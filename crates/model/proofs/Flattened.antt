@@ -51,7 +51,7 @@ pub data PairwiseStands (s : Bytes) : List ℕ → List Bytes → Type 0 where
 
 -- How the arms of `Field::_fields` and the layouts of the table go together
 
-data Arm (c : ℕ) (k : Children) : Type 0 where
+pub data Arm (c : ℕ) (k : Children) : Type 0 where
   struct : c ≡ Struct → k ≡ counted → Arm c k
   union : c ≡ Union → k ≡ countedWithIds → Arm c k
   dictionary : c ≡ Dictionary → k ≡ keyAndValue → Arm c k
@@ -77,7 +77,7 @@ fixed-entry [] c i h = refl
 fixed-entry (x ∷ xs) c zero h = rw add-zero (and-eq-true-iff (fixed c x) _ .0 h .0)
 fixed-entry (x ∷ xs) c (suc i) h = rw (add-suc, ← suc-add) (fixed-entry xs (suc c) i (and-eq-true-iff (fixed c x) _ .0 h .1))
 
-arm : (c : ℕ) → Arm c (layout c .children)
+pub arm : (c : ℕ) → Arm c (layout c .children)
 unfolding layout table fixedFrom isFields among
 arm c =
     cases (eqb c Struct) (λ e. let h = eqb-true c Struct e in struct h (ap (λ c. layout c .children) h)) λ s.
@@ -222,7 +222,8 @@ type-half (suc l) t =
       length-append (t .params) (childrenBytes (typeBytes l) k (t .children)),
     )
 
-length-numbers : (ns : List ℕ) → length (each u16 ns) ≡ 2 * length ns
+-- u16 numbers take two bytes each
+pub length-numbers : (ns : List ℕ) → length (each u16 ns) ≡ 2 * length ns
 unfolding u16
 length-numbers [] = refl
 length-numbers (n ∷ ns) = omega (arith, length-numbers ns)

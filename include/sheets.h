@@ -1,0 +1,59 @@
+/* The calls of the port for C: target/staticlib/libexports.a, which `rt staticlib exports` makes.
+ *
+ * Each gives document 01's number (0: accepted), and sets *place and *length: the place that the
+ * number names, and how many bytes of the answer buffer are the answer. A refusal touches no byte
+ * of the answer buffer. The work buffer, at least 4 times the sheets' bytes, is all 0 afterwards,
+ * but untouched after 32. Nothing is allocated, and nothing is left to the caller to test.
+ *
+ * A pointer is never null, also where its length is 0, and no buffer overlaps anything else. */
+#ifndef SHEETS_H
+#define SHEETS_H
+
+#include <stddef.h>
+#include <stdint.h>
+
+#ifdef __cplusplus
+extern "C" {
+#endif
+
+/* Types: one byte for each column, 1 where its type is nested. */
+uint8_t sheets_is_nested(const uint8_t *sheet, size_t sheet_length,
+                         uint8_t *work, size_t work_length,
+                         uint8_t *answer, size_t answer_length,
+                         size_t *place, size_t *length);
+
+/* Types: one byte, 1 where the columns of two sheets are equal. */
+uint8_t sheets_equal(const uint8_t *sheet, size_t sheet_length,
+                     const uint8_t *other, size_t other_length,
+                     uint8_t *work, size_t work_length,
+                     uint8_t *answer, size_t answer_length,
+                     size_t *place, size_t *length);
+
+/* Unions: the ids given, of so many fields. */
+uint8_t sheets_try_new(const uint8_t *ids, size_t ids_length, uint16_t count,
+                       uint8_t *answer, size_t answer_length,
+                       size_t *place, size_t *length);
+
+/* Unions: the ids of so many fields, from 0 on. */
+uint8_t sheets_try_from_fields(uint16_t count,
+                               uint8_t *answer, size_t answer_length,
+                               size_t *place, size_t *length);
+
+/* Schemas: the position of the first column of a name, two bytes, the lower first. */
+uint8_t sheets_index_of(const uint8_t *sheet, size_t sheet_length,
+                        const uint8_t *name, size_t name_length,
+                        uint8_t *work, size_t work_length,
+                        uint8_t *answer, size_t answer_length,
+                        size_t *place, size_t *length);
+
+/* Schemas: the number of fields, then the offset of each field's map in the sheet, two bytes each. */
+uint8_t sheets_flattened_fields(const uint8_t *sheet, size_t sheet_length,
+                                uint8_t *work, size_t work_length,
+                                uint8_t *answer, size_t answer_length,
+                                size_t *place, size_t *length);
+
+#ifdef __cplusplus
+}
+#endif
+
+#endif
