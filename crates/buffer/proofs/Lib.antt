@@ -2,3 +2,4 @@
 pub mod Pasted
 pub mod Room
 pub mod Ends
+pub mod Puts

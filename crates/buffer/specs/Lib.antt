@@ -1,3 +1,4 @@
 -- The definitions that the contracts of `buffer` cite.
 pub mod Buffer
+pub mod Puts
 pub mod Leaves

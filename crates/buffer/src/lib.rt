@@ -5,13 +5,14 @@
 // such buffers: what it makes, it owns.
 ghost use mathlib.Core.Path.{_≡_};
 ghost use mathlib.Core.List.{[], _∷_};
-ghost use Prim.Native.Nat.{_+_, _*_, _≤_, _<_};
+ghost use Prim.Native.Nat.{_+_, _*_, _/_, _%_, _≤_, _<_};
 ghost use lib.ListN.{length};
 ghost use lib.Dec.{ltb};
 ghost use Rattle.model.specs.Numbers.{workBytesPerSheetByte};
 ghost use Rattle.model.specs.Bytes.{Bytes, u16};
 ghost use Rattle.model.specs.Call.{zeros, acceptance};
 ghost use Rattle.buffer.specs.Buffer.{pasted};
+ghost use Rattle.buffer.specs.Puts.{Puts, lengthNumber};
 ghost use Rattle.buffer.specs.Leaves.{leaves, refusedWith, acceptedWith};
 
 // "work buffer below 4 times the sheet bytes given"
@@ -97,6 +98,42 @@ pub fn put_u16(dst: &mut [u8], at: usize, v: usize)
     put_byte(dst, at + 1, (v / 256) as u8);
 }
 
+// Writes bytes from a position on where they fit, and gives the position behind them either way; a position above MAX_ANSWER_BYTES says
+// that they pass the longest answer. A call that writes a sheet writes it twice: into a buffer of no bytes for its length, then into the
+// answer buffer.
+pub fn put(dst: &mut [u8], at: usize, src: &[u8]) -> usize
+    ensures { λ r. ⌜ Puts (now (src .entry)) (now (dst .entry)) at (now (dst .exit)) r ⌝ }
+{
+    if MAX_ANSWER_BYTES < at {
+        return at;
+    }
+    if MAX_ANSWER_BYTES - at < src.len() {
+        return MAX_ANSWER_BYTES + 1;
+    }
+    let end = at + src.len();
+    if dst.len() < end {
+        return end;
+    }
+    copy_in(dst, at, src);
+    end
+}
+
+// One byte.
+pub fn put_one(dst: &mut [u8], at: usize, b: u8) -> usize
+    ensures { λ r. ⌜ Puts (b ∷ []) (now (dst .entry)) at (now (dst .exit)) r ⌝ }
+{
+    let byte = [b];
+    put(dst, at, &byte)
+}
+
+// The two lower bytes of a number. A count above 65,535 stands in no accepted answer, since its elements pass the longest one.
+pub fn put_two(dst: &mut [u8], at: usize, v: usize) -> usize
+    ensures { λ r. ⌜ Puts (v % 256 ∷ v / 256 % 256 ∷ []) (now (dst .entry)) at (now (dst .exit)) r ⌝ }
+{
+    let pair = [(v % 256) as u8, (v / 256 % 256) as u8];
+    put(dst, at, &pair)
+}
+
 // Whether a call ends with 32: a work buffer of `work` bytes for `given` sheet bytes. The product might not fit, so the quotient is compared.
 pub fn lacks_room(work: usize, given: usize) -> bool
     ensures { λ r. ⌜ r ≡ ltb work (workBytesPerSheetByte * given) ⌝ }
@@ -127,6 +164,19 @@ pub fn write_answer(answer: &mut [u8], bytes: &[u8]) -> Outcome
     }
     copy_in(answer, 0, bytes);
     Outcome::accepted(bytes.len())
+}
+
+// The number that a call ends with whose answer has so many bytes, in a buffer of so many.
+pub fn length_number(written: usize, room: usize) -> u8
+    ensures { λ r. ⌜ r ≡ lengthNumber written room ⌝ }
+{
+    if MAX_ANSWER_BYTES < written {
+        return Outcome::ANSWER_TOO_LONG;
+    }
+    if room < written {
+        return Outcome::ANSWER_BUFFER_SHORT;
+    }
+    Outcome::ACCEPTED
 }
 
 // The end of a call with a refusal after 32: the work buffer is cleared.

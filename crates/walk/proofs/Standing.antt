@@ -1,10 +1,10 @@
 -- Bytes that stand at a place: their parts, and the places behind the parts.
-use Prim.Native.Nat.{ℕ, _+_, _*_, _≤_}
+use Prim.Native.Nat.{ℕ, _+_, _*_, _-_, _≤_}
 use native.Mathlib.Omega.{arith}
 use mathlib.Core.Path.{_≡_, refl, sym, ap, subst, _∙_}
 use mathlib.Core.List.{[], _∷_, _++_, append-assoc, append-nil}
-use lib.ListN.{length, drop, getD, length-append, length-drop}
-use lib.Seq.{drop-drop, drop-append-seam, getD-drop}
+use lib.ListN.{length, take, drop, getD, length-append, length-drop}
+use lib.Seq.{drop-drop, drop-append-seam, getD-drop, take-append-seam}
 use Rattle.model.specs.Bytes.{Bytes, num, u16}
 use Rattle.walk.specs.Stands.{Stands, Skips}
 
@@ -55,6 +55,12 @@ module _ {s : Bytes} {place : ℕ} where
   two-stands (x ∷ y ∷ []) b e h =
       omega (arith, byte-stands h, byte-stands (second-stands (x ∷ []) (y ∷ b) h))
   two-stands (x ∷ y ∷ z ∷ n) b e h = absurd (omega (arith, e))
+
+  -- the part of a slice where bytes stand
+  pub taken : {end : ℕ} {b : Bytes} → Stands s place b → end ≡ place + length b → take (end - place) (drop place s) ≡ b
+  taken {end} {b} st h =
+      let w : end - place ≡ length b = omega (arith, h) in
+      ap (λ n. take n (drop place s)) w ∙ ap (take (length b)) (st .bytes) ∙ take-append-seam b _
 
   -- nothing is skipped
   pub skip-none : Skips s place [] place

@@ -11,6 +11,7 @@ ghost use Rattle.model.specs.Tree.Params.{timestamp};
 ghost use Rattle.model.specs.Sheet.{each, withCount, part, stands, textBytes, pairBytes, headBytes, sheetBytes};
 ghost use Rattle.model.specs.WellFormed.{WellFormedZone, WellFormedParams};
 ghost use Rattle.model.specs.Datatype.{holdsFields};
+ghost use Rattle.buffer.specs.Puts.{Puts};
 ghost use Rattle.walk.specs.Stands.{Stands, Skips, SkipsType, SkipsField, SkipsFields, SkipsMembers, SkipsChildren, TellsNested, ColumnsAt, SkipsSheet};
 ghost use Rattle.layout.specs.Kinds.{paramsBy};
 ghost use Rattle.walk.specs.Widths.{width};
@@ -278,6 +279,19 @@ pub fn skip_sheet(s: &[u8], at: usize) -> usize
     let first = columns.at;
     let count = columns.count;
     skip_fields(s, first, count, LEVELS)
+}
+
+// Copies what stands between two places of a sheet.
+pub fn put_part(w: &mut [u8], pos: usize, s: &[u8], from: usize, to: usize) -> usize
+    ensures { λ r. ⌜ ((b : Bytes) → Stands (now (s .entry)) from b → to ≡ from + length b → Puts b (now (w .entry)) pos (now (w .exit)) r) ⌝ }
+{
+    if to < from {
+        return pos;
+    }
+    if s.len() < to {
+        return pos;
+    }
+    buffer::put(w, pos, &s[from..to])
 }
 
 // Whether a type of this code holds fields of the column's own values.
