@@ -29,6 +29,21 @@ uint8_t sheets_equal(const uint8_t *sheet, size_t sheet_length,
                      uint8_t *answer, size_t answer_length,
                      size_t *place, size_t *length);
 
+/* Types: one byte, 1 where the columns of two sheets are equal but for names, metadata, order flags and
+ * the order of union children. */
+uint8_t sheets_equals_datatype(const uint8_t *sheet, size_t sheet_length,
+                               const uint8_t *other, size_t other_length,
+                               uint8_t *work, size_t work_length,
+                               uint8_t *answer, size_t answer_length,
+                               size_t *place, size_t *length);
+
+/* Schemas: one byte, 1 where the first sheet contains the second. */
+uint8_t sheets_contains(const uint8_t *sheet, size_t sheet_length,
+                        const uint8_t *other, size_t other_length,
+                        uint8_t *work, size_t work_length,
+                        uint8_t *answer, size_t answer_length,
+                        size_t *place, size_t *length);
+
 /* Unions: the ids given, of so many fields. */
 uint8_t sheets_try_new(const uint8_t *ids, size_t ids_length, uint16_t count,
                        uint8_t *answer, size_t answer_length,

@@ -12,7 +12,7 @@ use Rattle.model.proofs.Lists.{and-true, beq-eq}
 use Rattle.model.proofs.ByteStrings.{same-bytes-eq, same-bytes-refl}
 use Rattle.model.proofs.Equivalences.{metadata-equivalence}
 use Rattle.model.proofs.SameBytes.{by-truth, not-true, name-split, part-equal, metadata-same-eq}
-use Rattle.datatype.specs.Children.{sameHead}
+use Rattle.datatype.specs.Comparisons.{sameHead}
 
 -- the first byte of a head
 abbrev pub mapOf : Head → ℕ
@@ -26,24 +26,30 @@ flag-one : (n : ℕ) (b : Bool) → (flag n b ≡ n * flag 1 b) × (flag 1 b ≤
 flag-one n true = (omega arith, omega arith)
 flag-one n false = (omega arith, omega arith)
 
-flag-equal : (a b : Bool) → flag 1 a ≡ flag 1 b → a ≡ b
+pub flag-equal : (a b : Bool) → flag 1 a ≡ flag 1 b → a ≡ b
 flag-equal true true h = refl
 flag-equal true false h = absurd (omega (arith, h))
 flag-equal false true h = absurd (omega (arith, h))
 flag-equal false false h = refl
 
-beq-of : (a b : Bool) → a ≡ b → Bool·beq a b ≡ true
+pub beq-of : (a b : Bool) → a ≡ b → Bool·beq a b ≡ true
 beq-of true true e = refl
 beq-of true false e = sym e
 beq-of false true e = e
 beq-of false false e = refl
 
 module _ (h : Head) where
-  low-form : mapOf h % 2 ≡ flag 1 (h .nullable)
+  pub low-form : mapOf h % 2 ≡ flag 1 (h .nullable)
   low-form = omega (arith, flag-one 1 (h .nullable), flag-one 2 (h .dictIsOrdered), flag-one 4 (stands (h .name)), flag-one 8 (stands (h .metadata)))
 
   high-form : mapOf h / 4 ≡ flag 1 (stands (h .name)) + 2 * flag 1 (stands (h .metadata))
   high-form = omega (arith, flag-one 1 (h .nullable), flag-one 2 (h .dictIsOrdered), flag-one 4 (stands (h .name)), flag-one 8 (stands (h .metadata)))
+
+  pub order-form : mapOf h / 2 % 2 ≡ flag 1 (h .dictIsOrdered)
+  order-form = omega (arith, flag-one 1 (h .nullable), flag-one 2 (h .dictIsOrdered), flag-one 4 (stands (h .name)), flag-one 8 (stands (h .metadata)))
+
+  pub name-form : mapOf h / 4 % 2 ≡ flag 1 (stands (h .name))
+  name-form = omega (arith, flag-one 1 (h .nullable), flag-one 2 (h .dictIsOrdered), flag-one 4 (stands (h .name)), flag-one 8 (stands (h .metadata)))
 
 module _ (h g : Head) where
   high : mapOf h / 4 ≡ mapOf g / 4 → (stands (h .name) ≡ stands (g .name)) × (stands (h .metadata) ≡ stands (g .metadata))

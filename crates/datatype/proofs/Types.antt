@@ -1,24 +1,27 @@
--- Two types, and the columns of two sheets.
+-- Two types, the columns of two sheets, and two sheets.
 use Prim.Native.Nat.{ℕ, zero, suc, _+_, _-_, _≤_}
 use native.Mathlib.Omega.{arith}
 use mathlib.Core.Path.{_≡_, refl, sym, ap, subst, _∙_}
 use mathlib.Core.List.{[], _∷_}
 use mathlib.Core.Bool.{Bool, true, false, _&&_}
 use lib.ListN.{length, getD}
-use lib.Dec.{eqb}
-use borrow.Author.Tests.{eq-eqb, ne-eqb}
-use Rattle.model.specs.Bytes.{Bytes, Every, same, sameBytes}
-use Rattle.model.specs.Tree.{DataType, Schema, layout}
+use Rattle.model.specs.Bytes.{Bytes, Metadata, Every, same}
+use Rattle.model.specs.Tree.{DataType, Schema, Struct, table, layout}
 use Rattle.model.specs.Tree.Children.{counted}
 use Rattle.model.specs.Sheet.{childrenBytes, typeBytes, sheetBytes}
 use Rattle.model.specs.WellFormed.{WellFormedParams, CountFits, Whole, Child}
-use Rattle.model.specs.Equal.{sameChild, sameType, sameColumns}
+use Rattle.model.specs.Equal.{sameColumns}
+use Rattle.model.specs.Datatype.{equalsColumns, containsMetadata, containsSchema}
 use Rattle.layout.specs.Kinds.{childrenBy}
 use Rattle.walk.specs.Stands.{Stands, Skips, ColumnsAt}
 use Rattle.walk.proofs.Standing.{first-stands, byte-stands, stands-behind, skip-ahead}
 use Rattle.walk.proofs.Parts.{Ahead}
+use Rattle.datatype.specs.declared.compare.Comparison.{Comparison}
+use Rattle.datatype.specs.declared.compare.Comparison.the-variants.{Equal, EqualsDatatype, Contains}
 use Rattle.datatype.specs.Children.{childBytes}
-use Rattle.datatype.proofs.Heads.{Stretches}
+use Rattle.datatype.specs.Comparisons.{PairsAt, compareField, compareChild, compareSchema}
+use Rattle.datatype.proofs.Texts.{Stretches, Contained}
+use Rattle.datatype.proofs.Comparisons.{plain-row, other-codes, other-params, children-decide}
 use Rattle.datatype.proofs.Children.{Types, Kids, Rows}
 use Rattle.datatype.proofs.Rows.{counts-differ}
 
@@ -45,64 +48,96 @@ parts-of {s} {place} {code} {from} {first} e a f l x w st =
     let p = first-stands (x .params) _ st′ in
     record { params = p; behind = k .behind p; children = stands-behind k st′ }
 
-module _ {s t : Bytes} {a b : ℕ} (levels : ℕ) where
+module _ (how : Comparison) {s t : Bytes} {a b : ℕ} (levels : ℕ) where
   -- no type is of no level
-  pub no-types : (r : Bool) → levels ≤ 0 → Types s a t b levels r
+  pub no-types : (r : Bool) → levels ≤ 0 → Types how s a t b levels r
   no-types r h zero x y k w w′ st st′ = absurd w
   no-types r h (suc l) x y k w w′ st st′ = absurd (omega (arith, h, k))
 
   module _ {code other : ℕ} (e : code ≡ getD s a 0) (e′ : other ≡ getD t b 0) where
-    pub types-codes : (code ≡ other → ⊥) → Types s a t b levels false
-    unfolding sameType
+    pub types-codes : (code ≡ other → ⊥) → Types how s a t b levels false
     types-codes d zero x y k w w′ st st′ = absurd w
-    types-codes d (suc l) x y k w w′ st st′ =
-        ap (λ z. z && sameBytes (x .params) (y .params) && same (sameChild (λ x y. sameType l x y)) (x .children) (y .children))
-        (sym (ne-eqb _ _ λ i. d (code-is e l x st ∙ i ∙ sym (code-is e′ l y st′))))
+    types-codes d (suc l) x y k w w′ st st′ = other-codes l x y how λ i. d (code-is e l x st ∙ i ∙ sym (code-is e′ l y st′))
 
     module _ {from since first next : ℕ} (d : code ≡ other) (u : Ahead s a 1 from) (v : Ahead t b 1 since) (f : Params s from code first) (g : Params t since code next) where
-      codes-equal : (l : ℕ) (x y : DataType (suc l)) → Stands s a (typeBytes (suc l) x) → Stands t b (typeBytes (suc l) y) → eqb (x .code) (y .code) ≡ true
-      codes-equal l x y st st′ = eq-eqb _ _ (sym (code-is e l x st) ∙ d ∙ code-is e′ l y st′)
+      one-code : (l : ℕ) (x y : DataType (suc l)) → Stands s a (typeBytes (suc l) x) → Stands t b (typeBytes (suc l) y) → x .code ≡ y .code
+      one-code l x y st st′ = sym (code-is e l x st) ∙ d ∙ code-is e′ l y st′
 
-      pub types-params : {r : Bool} → r ≡ false → Stretches s from first t since next r → Types s a t b levels false
-      unfolding sameType
+      pub types-params : {r : Bool} → r ≡ false → Stretches s from first t since next r → Types how s a t b levels false
       types-params i h zero x y k w w′ st st′ = absurd w
       types-params i h (suc l) x y k w w′ st st′ =
           let p = parts-of e u f l x w st in
           let q = parts-of (d ∙ e′) v g l y w′ st′ in
-          sym
-          (ap (λ z. z && sameBytes (x .params) (y .params) && same (sameChild (λ x y. sameType l x y)) (x .children) (y .children)) (codes-equal l x y st st′)
-          ∙ ap (λ z. z && same (sameChild (λ x y. sameType l x y)) (x .children) (y .children)) (sym (h _ _ (p .params) (q .params) (p .behind) (q .behind)) ∙ i))
+          other-params l x y how (one-code l x y st st′) (sym (h _ _ (p .params) (q .params) (p .behind) (q .behind)) ∙ i)
 
-      pub types-kids : {r z : Bool} {j k : ℕ} → r ≡ true → Stretches s from first t since next r → childrenBy j ≡ layout code .children → k ≡ j
-          → Kids s first t next (childrenBy k) (levels - 1) z → Types s a t b levels z
-      unfolding sameType
-      types-kids i h m n o zero x y lv w w′ st st′ = absurd w
-      types-kids {z = z} {k = kind} i h m n o (suc l) x y lv w w′ st st′ =
+      pub types-kids : {r z : Bool} → r ≡ true → Stretches s from first t since next r → Kids how s first t next code (levels - 1) z → Types how s a t b levels z
+      types-kids i h o zero x y lv w w′ st st′ = absurd w
+      types-kids {z = z} i h o (suc l) x y lv w w′ st st′ =
           let p = parts-of e u f l x w st in
           let q = parts-of (d ∙ e′) v g l y w′ st′ in
-          let c : layout (x .code) .children ≡ childrenBy kind = sym (ap childrenBy n ∙ m ∙ ap (λ c. layout c .children) (code-is e l x st)) in
-          let c′ : layout (y .code) .children ≡ childrenBy kind = sym (ap childrenBy n ∙ m ∙ ap (λ c. layout c .children) (code-is (d ∙ e′) l y st′)) in
-          o l (x .children) (y .children) (omega (arith, lv)) (subst (λ c. CountFits c (x .children)) c (w .1)) (subst (λ c. CountFits c (y .children)) c′ (w′ .1))
-          (subst (λ c. Every (Child l c) (x .children)) c (w .2)) (subst (λ c. Every (Child l c) (y .children)) c′ (w′ .2))
-          (subst (λ c. Stands s first (childrenBytes (typeBytes l) c (x .children))) c (p .children))
-          (subst (λ c. Stands t next (childrenBytes (typeBytes l) c (y .children))) c′ (q .children))
-          ∙ sym
-          (ap (λ z. z && sameBytes (x .params) (y .params) && same (sameChild (λ x y. sameType l x y)) (x .children) (y .children)) (codes-equal l x y st st′)
-          ∙ ap (λ z. z && same (sameChild (λ x y. sameType l x y)) (x .children) (y .children)) (sym (h _ _ (p .params) (q .params) (p .behind) (q .behind)) ∙ i))
+          let c = one-code l x y st st′ in
+          let k = subst (λ c. Every (Child l (layout c .children)) (y .children)) (sym c) (w′ .2) in
+          subst (λ c. Kids how s first t next c (levels - 1) z) (code-is e l x st) o l (x .children) (y .children) (omega (arith, lv)) (w .1)
+          (subst (λ c. CountFits (layout c .children) (y .children)) (sym c) (w′ .1)) (w .2) k (p .children)
+          (subst (λ c. Stands t next (childrenBytes (typeBytes l) (layout c .children) (y .children))) (sym c) (q .children))
+          ∙ children-decide l x y how c (sym (h _ _ (p .params) (q .params) (p .behind) (q .behind)) ∙ i) (w .2) k
 
 -- Columns
 
--- what `same_columns` ensures
-abbrev Columns : Bytes → ℕ → Bytes → ℕ → Bool → Type 0
-Columns s a t b r = (x y : Schema) → Every (Child 32 counted) (x .columns) → Every (Child 32 counted) (y .columns) → Stands s a (sheetBytes x) → Stands t b (sheetBytes y)
-    → r ≡ sameColumns x y
+-- what `compare_columns` ensures
+abbrev pub Columns : Comparison → Bytes → ℕ → Bytes → ℕ → Bool → Type 0
+Columns how s a t b r = (x y : Schema) → Every (Child 32 counted) (x .columns) → Every (Child 32 counted) (y .columns) → Stands s a (sheetBytes x) → Stands t b (sheetBytes y)
+    → r ≡ same (compareChild how 32) (x .columns) (y .columns)
 
-module _ {s t : Bytes} {a b n m p q : ℕ} (f : (x : Schema) → Stands s a (sheetBytes x) → ColumnsAt s a x n p) (g : (y : Schema) → Stands t b (sheetBytes y) → ColumnsAt t b y m q) where
-  pub columns-counts : (n ≡ m → ⊥) → Columns s a t b false
-  unfolding sameColumns
+module _ (how : Comparison) {s t : Bytes} {a b n m p q : ℕ} (f : (x : Schema) → Stands s a (sheetBytes x) → ColumnsAt s a x n p)
+    (g : (y : Schema) → Stands t b (sheetBytes y) → ColumnsAt t b y m q) where
+  pub columns-counts : (n ≡ m → ⊥) → Columns how s a t b false
   columns-counts d x y w w′ st st′ = counts-differ _ (x .columns) (y .columns) λ e. d (f x st .count ∙ e ∙ sym (g y st′ .count))
 
-  pub columns-rows : {r : Bool} → n ≡ m → Rows s p t q (childrenBy 4) n 32 r → Columns s a t b r
-  unfolding sameColumns childrenBy childBytes
+  pub columns-rows : {r : Bool} → n ≡ m → Rows how s p t q (childrenBy 4) n 32 r → Columns how s a t b r
+  unfolding childrenBy childBytes
   columns-rows d h x y w w′ st st′ =
       h 32 (x .columns) (y .columns) (omega arith) (sym (f x st .count)) (sym (d ∙ g y st′ .count)) w w′ (f x st .stands) (g y st′ .stands)
+
+-- Sheets
+
+-- what a comparison asks beside the columns
+abbrev besides : Comparison → Metadata → Metadata → Bool
+besides Equal m n = true
+besides EqualsDatatype m n = true
+besides Contains m n = containsMetadata m n
+
+alone : (b : Bool) → (b && true) ≡ b
+alone true = refl
+alone false = refl
+
+schema-parts : (how : Comparison) (x y : Schema) → Every (Child 32 counted) (x .columns) → Every (Child 32 counted) (y .columns)
+    → (same (compareChild how 32) (x .columns) (y .columns) && besides how (x .metadata) (y .metadata)) ≡ compareSchema how x y
+unfolding compareSchema compareChild compareField sameColumns equalsColumns containsSchema layout table
+schema-parts Equal x y w w′ = alone _
+schema-parts EqualsDatatype x y w w′ = alone _ ∙ plain-row EqualsDatatype 32 Struct refl (x .columns) (y .columns) w w′
+schema-parts Contains x y w w′ = ap (λ b. b && containsMetadata (x .metadata) (y .metadata)) (plain-row Contains 32 Struct refl (x .columns) (y .columns) w w′)
+
+-- what `compare_sheets` ensures
+abbrev pub Sheets : Comparison → Bytes → Bytes → Bool → Type 0
+Sheets how s t r = (x y : Schema) → Every (Child 32 counted) (x .columns) → Every (Child 32 counted) (y .columns) → Stands s 0 (sheetBytes x) → Stands t 0 (sheetBytes y)
+    → r ≡ compareSchema how x y
+
+module _ (how : Comparison) {s t : Bytes} {r : Bool} (c : Columns how s 0 t 0 r) where
+  pub sheets-columns : r ≡ false → Sheets how s t false
+  sheets-columns e x y w w′ st st′ = ap (λ b. b && besides how (x .metadata) (y .metadata)) (sym e ∙ c x y w w′ st st′) ∙ schema-parts how x y w w′
+
+  sheets-besides : {z : Bool} → r ≡ true → ((x y : Schema) → Stands s 0 (sheetBytes x) → Stands t 0 (sheetBytes y) → z ≡ besides how (x .metadata) (y .metadata)) → Sheets how s t z
+  sheets-besides e d x y w w′ st st′ =
+      d x y st st′ ∙ ap (λ b. b && besides how (x .metadata) (y .metadata)) (sym e ∙ c x y w w′ st st′) ∙ schema-parts how x y w w′
+
+  pub sheets-equal : r ≡ true → how ≡ Equal → Sheets how s t true
+  sheets-equal e h = sheets-besides e λ x y st st′. sym (ap (λ how. besides how (x .metadata) (y .metadata)) h)
+
+  pub sheets-datatype : r ≡ true → how ≡ EqualsDatatype → Sheets how s t true
+  sheets-datatype e h = sheets-besides e λ x y st st′. sym (ap (λ how. besides how (x .metadata) (y .metadata)) h)
+
+  pub sheets-metadata : {n p m q : ℕ} {z : Bool} → r ≡ true → how ≡ Contains → ((x : Schema) → Stands s 0 (sheetBytes x) → PairsAt s (x .metadata) n p)
+      → ((y : Schema) → Stands t 0 (sheetBytes y) → PairsAt t (y .metadata) m q) → Contained s n p t m q z → Sheets how s t z
+  sheets-metadata e h u v d =
+      sheets-besides e λ x y st st′. d (x .metadata) (y .metadata) (u x st) (v y st′) ∙ sym (ap (λ how. besides how (x .metadata) (y .metadata)) h)

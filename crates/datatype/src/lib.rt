@@ -1,193 +1,101 @@
-// Document 01, module 2, types: `DataType::is_nested` of each column, and plain equality, `==` of `DataType` (datatype.rs) and of `Field`
-// (field.rs, `PartialEq for Field`). Sheets that have been read are gone over, two of them side by side. Nothing here tests the format
-// again: each function takes any bytes and any places, and says what it answers where the parts stand there.
+// Document 01, module 2, types: `DataType::is_nested` of each column, plain equality, `==` of `DataType` (datatype.rs) and of `Field`
+// (field.rs, `PartialEq for Field`), `equals_datatype` and `contains`. Sheets that have been read are gone over, two of them side by side.
+// Nothing here tests the format again: each function takes any bytes and any places, and says what it answers where the parts stand there.
+mod compare;
+pub mod metadata;
+
 use buffer::Outcome;
+use compare::Comparison;
+use compare::compare_field;
+use compare::compare_row;
+use compare::compare_type;
+use metadata::contains_metadata;
+use metadata::of_sheet;
 use sheet::Cursor;
 use sheet::Step;
 ghost use mathlib.Core.Path.{_≡_};
 ghost use mathlib.Core.List.{List, map};
-ghost use Prim.Native.Nat.{ℕ, _+_, _<_, _≤_};
+ghost use Prim.Native.Nat.{ℕ, _≤_};
 ghost use lib.ListN.{length};
 ghost use Rattle.model.specs.Numbers.{maxLevels};
-ghost use Rattle.model.specs.Bytes.{Bytes, Every, same, sameBytes, flag};
-ghost use Rattle.model.specs.Tree.{Head, DataType, Field, Schema};
-ghost use Rattle.model.specs.Sheet.{each, headBytes, fieldBytes, childrenBytes, typeBytes, sheetBytes, columnBytes};
+ghost use Rattle.model.specs.Bytes.{Bytes, Every, same, flag};
+ghost use Rattle.model.specs.Tree.{DataType, Field, Schema};
+ghost use Rattle.model.specs.Sheet.{each, fieldBytes, typeBytes, sheetBytes, columnBytes};
 ghost use Rattle.model.specs.Tree.Children.{counted};
-ghost use Rattle.model.specs.WellFormed.{CountFits, LaidOut, Whole, Child, Fits};
-ghost use Rattle.model.specs.Equal.{sameField, sameChild, sameType, sameColumns};
+ghost use Rattle.model.specs.WellFormed.{LaidOut, Whole, Child, Fits};
+ghost use Rattle.model.specs.Equal.{sameField, sameType};
 ghost use Rattle.model.specs.Datatype.{isNested};
-ghost use Rattle.model.specs.Call.{equalCall, acceptance, isNestedCall};
+ghost use Rattle.model.specs.Unions.{findByTypeId, findByField};
+ghost use Rattle.model.specs.Call.{equalCall, equalsDatatypeCall, containsCall, acceptance, isNestedCall};
 ghost use Rattle.buffer.specs.Buffer.{pasted};
 ghost use Rattle.buffer.specs.Leaves.{leaves};
-ghost use Rattle.layout.specs.Kinds.{childrenBy};
-ghost use Rattle.walk.specs.Stands.{Stands, Skips};
-ghost use Rattle.datatype.specs.Children.{sameHead, childBytes};
-
-// A byte as a number of places.
-fn wide(x: u8) -> usize
-    ensures { λ r. ⌜ (r ≡ x) × (r < 256) ⌝ }
-{
-    x as usize
-}
-
-// Whether the bytes from one place to another are equal to those between two places of the other sheet.
-fn same_stretch(s: &[u8], a: usize, e: usize, t: &[u8], b: usize, f: usize) -> bool
-    ensures { λ r. ⌜ ((x y : Bytes) → Stands (now (s .entry)) a x → Stands (now (t .entry)) b y → e ≡ a + length x → f ≡ b + length y → r ≡ sameBytes x y) ⌝ }
-{
-    if e < a {
-        return false;
-    }
-    if s.len() < e {
-        return false;
-    }
-    if f < b {
-        return false;
-    }
-    if t.len() < f {
-        return false;
-    }
-    text::same(&s[a..e], &t[b..f])
-}
-
-// Whether two heads are equal but for the order flag. Of the maps every other bit counts.
-fn same_head(s: &[u8], a: usize, t: &[u8], b: usize) -> bool
-    ensures { λ r. ⌜ ((h g : Head) → Stands (now (s .entry)) a (headBytes h) → Stands (now (t .entry)) b (headBytes g) → r ≡ sameHead h g) ⌝ }
-{
-    let map = walk::byte(s, a);
-    let other = walk::byte(t, b);
-    if map % 2 != other % 2 {
-        return false;
-    }
-    if map / 4 != other / 4 {
-        return false;
-    }
-    let from = walk::ahead(s, a, 1);
-    let since = walk::ahead(t, b, 1);
-    same_stretch(
-        s,
-        from,
-        walk::skip_head(s, a),
-        t,
-        since,
-        walk::skip_head(t, b),
-    )
-}
-
-// The place behind a child, by the kind of its parent's children, as the crate `layout` numbers them: 3 is a Dictionary's two types,
-// which have no head, and above 4 an id stands before each field.
-fn skip_child(s: &[u8], at: usize, kind: usize, levels: usize) -> usize
-    ensures { λ r. ⌜ ((l : ℕ) (k : Field l) → l ≤ levels → LaidOut l (k .dataType) → Skips (now (s .entry)) at (childBytes l (childrenBy kind) k) r) ⌝ }
-{
-    if kind == 3 {
-        return walk::skip_type(s, at, levels);
-    }
-    if kind < 5 {
-        return walk::skip_field(s, at, levels);
-    }
-    walk::skip_field(s, walk::ahead(s, at, 1), levels)
-}
+ghost use Rattle.walk.specs.Stands.{Stands, memberBytes};
+ghost use Rattle.datatype.specs.Answers.{matchOf};
+ghost use Rattle.datatype.specs.Comparisons.{compareChild, compareSchema, compareCall};
 
 // Whether two types are equal, of at most so many levels.
 pub fn same_type(s: &[u8], a: usize, t: &[u8], b: usize, levels: usize) -> bool
     ensures { λ r. ⌜ ((l : ℕ) (x y : DataType l) → l ≤ levels → Whole l x → Whole l y → Stands (now (s .entry)) a (typeBytes l x) → Stands (now (t .entry)) b (typeBytes l y) → r ≡ sameType l x y) ⌝ }
 {
-    if levels <= 0 {
-        return true;
-    }
-    let code = walk::byte(s, a);
-    if code != walk::byte(t, b) {
-        return false;
-    }
-    let from = walk::ahead(s, a, 1);
-    let since = walk::ahead(t, b, 1);
-    let first = walk::skip_params(s, from, code);
-    let other = walk::skip_params(t, since, code);
-    if !same_stretch(s, from, first, t, since, other) {
-        return false;
-    }
-    same_children(
-        s,
-        first,
-        t,
-        other,
-        wide(layout::children_kind(code)),
-        levels - 1,
-    )
+    compare_type(s, a, t, b, levels, Comparison::Equal)
 }
 
 // Whether two fields are equal.
 pub fn same_field(s: &[u8], a: usize, t: &[u8], b: usize, levels: usize) -> bool
     ensures { λ r. ⌜ ((l : ℕ) (f g : Field l) → l ≤ levels → Whole l (f .dataType) → Whole l (g .dataType) → Stands (now (s .entry)) a (fieldBytes (typeBytes l) f) → Stands (now (t .entry)) b (fieldBytes (typeBytes l) g) → r ≡ sameField (sameType l) f g) ⌝ }
 {
-    if !same_head(s, a, t, b) {
-        return false;
-    }
-    same_type(s, walk::skip_head(s, a), t, walk::skip_head(t, b), levels)
+    compare_field(s, a, t, b, levels, Comparison::Equal)
 }
 
-// Whether two children are equal, of parents with this kind of children. Only what is written of them is compared.
-fn same_child(s: &[u8], a: usize, t: &[u8], b: usize, kind: usize, levels: usize) -> bool
-    ensures { λ r. ⌜ ((l : ℕ) (j k : Field l) → l ≤ levels → Child l (childrenBy kind) j → Child l (childrenBy kind) k → Stands (now (s .entry)) a (childBytes l (childrenBy kind) j) → Stands (now (t .entry)) b (childBytes l (childrenBy kind) k) → r ≡ sameChild (sameType l) j k) ⌝ }
-{
-    if kind == 3 {
-        return same_type(s, a, t, b, levels);
-    }
-    if kind < 5 {
-        return same_field(s, a, t, b, levels);
-    }
-    if walk::byte(s, a) != walk::byte(t, b) {
-        return false;
-    }
-    same_field(s, walk::ahead(s, a, 1), t, walk::ahead(t, b, 1), levels)
+// The position of the first union child that matches, or none.
+pub enum Match {
+    First(usize),
+    Missing,
 }
 
-// Whether so many children one behind the other are equal to as many others. A loop: a thousand take no more stack than one.
-fn same_row(
-    s: &[u8],
-    a: usize,
-    t: &[u8],
-    b: usize,
-    kind: usize,
-    count: usize,
-    levels: usize,
-) -> bool
-    ensures { λ r. ⌜ ((l : ℕ) (js ks : List (Field l)) → l ≤ levels → length js ≡ count → length ks ≡ count → Every (Child l (childrenBy kind)) js → Every (Child l (childrenBy kind)) ks → Stands (now (s .entry)) a (each (childBytes l (childrenBy kind)) js) → Stands (now (t .entry)) b (each (childBytes l (childrenBy kind)) ks) → r ≡ same (sameChild (sameType l)) js ks) ⌝ }
+// `UnionFields::find_by_type_id`: the first of so many union children, one behind the other from a place on, that has this id.
+pub fn find_by_type_id(s: &[u8], at: usize, count: usize, id: usize, levels: usize) -> Match
+    ensures { λ r. ⌜ ((l : ℕ) (ks : List (Field l)) → l ≤ levels → length ks ≡ count → Every (λ k. LaidOut l (k .dataType)) ks → Stands (now (s .entry)) at (each (memberBytes l) ks) → r ≡ matchOf (findByTypeId ks id)) ⌝ }
 {
-    let mut place = a;
-    let mut other = b;
-    let mut left = count;
-    while 0 < left {
-        if !same_child(s, place, t, other, kind, levels) {
-            return false;
+    let mut place = at;
+    let mut i = 0;
+    while i < count {
+        if walk::byte(s, place) == id {
+            return Match::First(i);
         }
-        place = skip_child(s, place, kind, levels);
-        other = skip_child(t, other, kind, levels);
-        left -= 1;
+        place = walk::skip_field(s, walk::ahead(s, place, 1), levels);
+        i += 1;
     }
-    true
+    Match::Missing
 }
 
-// Whether the children of two types of one code are equal.
-fn same_children(s: &[u8], a: usize, t: &[u8], b: usize, kind: usize, levels: usize) -> bool
-    ensures { λ r. ⌜ ((l : ℕ) (js ks : List (Field l)) → l ≤ levels → CountFits (childrenBy kind) js → CountFits (childrenBy kind) ks → Every (Child l (childrenBy kind)) js → Every (Child l (childrenBy kind)) ks → Stands (now (s .entry)) a (childrenBytes (typeBytes l) (childrenBy kind) js) → Stands (now (t .entry)) b (childrenBytes (typeBytes l) (childrenBy kind) ks) → r ≡ same (sameChild (sameType l)) js ks) ⌝ }
+// `UnionFields::find_by_field`: the first of them whose field is equal to the one that stands at a place of another sheet.
+pub fn find_by_field(
+    s: &[u8],
+    at: usize,
+    count: usize,
+    t: &[u8],
+    field: usize,
+    levels: usize,
+) -> Match
+    ensures { λ r. ⌜ ((l : ℕ) (g : Field l) (ks : List (Field l)) → l ≤ levels → length ks ≡ count → Whole l (g .dataType) → Every (λ k. Whole l (k .dataType)) ks → Stands (now (t .entry)) field (fieldBytes (typeBytes l) g) → Stands (now (s .entry)) at (each (memberBytes l) ks) → r ≡ matchOf (findByField (sameType l) ks g)) ⌝ }
 {
-    if kind < 3 {
-        return same_row(s, a, t, b, kind, kind, levels);
+    let mut place = at;
+    let mut i = 0;
+    while i < count {
+        let own = walk::ahead(s, place, 1);
+        if same_field(s, own, t, field, levels) {
+            return Match::First(i);
+        }
+        place = walk::skip_field(s, own, levels);
+        i += 1;
     }
-    if kind == 3 {
-        return same_row(s, a, t, b, kind, 2, levels);
-    }
-    let count = walk::two(s, a);
-    if count != walk::two(t, b) {
-        return false;
-    }
-    let first = walk::ahead(s, a, 2);
-    same_row(s, first, t, walk::ahead(t, b, 2), kind, count, levels)
+    Match::Missing
 }
 
-// Whether the columns of two sheets are equal.
-pub fn same_columns(s: &[u8], a: usize, t: &[u8], b: usize) -> bool
-    ensures { λ r. ⌜ ((x y : Schema) → Every (Child 32 counted) (x .columns) → Every (Child 32 counted) (y .columns) → Stands (now (s .entry)) a (sheetBytes x) → Stands (now (t .entry)) b (sheetBytes y) → r ≡ sameColumns x y) ⌝ }
+// The columns of two sheets, by position.
+fn compare_columns(s: &[u8], a: usize, t: &[u8], b: usize, how: Comparison) -> bool
+    ensures { λ r. ⌜ ((x y : Schema) → Every (Child 32 counted) (x .columns) → Every (Child 32 counted) (y .columns) → Stands (now (s .entry)) a (sheetBytes x) → Stands (now (t .entry)) b (sheetBytes y) → r ≡ same (compareChild how 32) (x .columns) (y .columns)) ⌝ }
 {
     let columns = walk::find_columns(s, a);
     let others = walk::find_columns(t, b);
@@ -195,7 +103,21 @@ pub fn same_columns(s: &[u8], a: usize, t: &[u8], b: usize) -> bool
     if count != others.count {
         return false;
     }
-    same_row(s, columns.at, t, others.at, 4, count, 32)
+    compare_row(s, columns.at, t, others.at, 4, count, Cursor::LEVELS, how)
+}
+
+// Two sheets: "both equalities take each sheet as the Struct of its columns", `Schema::contains` compares schema metadata too.
+fn compare_sheets(s: &[u8], t: &[u8], how: Comparison) -> bool
+    ensures { λ r. ⌜ ((x y : Schema) → Every (Child 32 counted) (x .columns) → Every (Child 32 counted) (y .columns) → Stands (now (s .entry)) 0 (sheetBytes x) → Stands (now (t .entry)) 0 (sheetBytes y) → r ≡ compareSchema how x y) ⌝ }
+{
+    if !compare_columns(s, 0, t, 0, how) {
+        return false;
+    }
+    match how {
+        Comparison::Equal => true,
+        Comparison::EqualsDatatype => true,
+        Comparison::Contains => contains_metadata(s, of_sheet(s, 0), t, of_sheet(t, 0)),
+    }
 }
 
 // "one byte, 1 for yes and 0 for no"
@@ -208,9 +130,15 @@ fn yes_no(yes: bool) -> u8
     0
 }
 
-// `==`: "both equalities take each sheet as the Struct of its columns".
-pub fn equal(sheet: &[u8], other: &[u8], work: &mut [u8], answer: &mut [u8]) -> Outcome
-    ensures { λ r. ⌜ leaves r (now (answer .exit)) (now (work .exit)) ≡ equalCall (now (sheet .entry)) (now (other .entry)) (now (work .entry)) (now (answer .entry)) ⌝ }
+// The call on two sheets: 32, a sheet refused, or the byte.
+fn answer_comparison(
+    sheet: &[u8],
+    other: &[u8],
+    work: &mut [u8],
+    answer: &mut [u8],
+    how: Comparison,
+) -> Outcome
+    ensures { λ r. ⌜ leaves r (now (answer .exit)) (now (work .exit)) ≡ compareCall how (now (sheet .entry)) (now (other .entry)) (now (work .entry)) (now (answer .entry)) ⌝ }
 {
     if buffer::lacks_room_for_two(work.len(), sheet.len(), other.len()) {
         return Outcome::refused(Outcome::WORK_BUFFER_SHORT, 0);
@@ -221,9 +149,30 @@ pub fn equal(sheet: &[u8], other: &[u8], work: &mut [u8], answer: &mut [u8]) -> 
         Step::Next(end) => buffer::accept_byte(
             work,
             answer,
-            yes_no(same_columns(sheet, 0, other, 0)),
+            yes_no(compare_sheets(sheet, other, how)),
         ),
     }
+}
+
+// `==` of `DataType`.
+pub fn equal(sheet: &[u8], other: &[u8], work: &mut [u8], answer: &mut [u8]) -> Outcome
+    ensures { λ r. ⌜ leaves r (now (answer .exit)) (now (work .exit)) ≡ equalCall (now (sheet .entry)) (now (other .entry)) (now (work .entry)) (now (answer .entry)) ⌝ }
+{
+    answer_comparison(sheet, other, work, answer, Comparison::Equal)
+}
+
+// `DataType::equals_datatype`.
+pub fn equals_datatype(sheet: &[u8], other: &[u8], work: &mut [u8], answer: &mut [u8]) -> Outcome
+    ensures { λ r. ⌜ leaves r (now (answer .exit)) (now (work .exit)) ≡ equalsDatatypeCall (now (sheet .entry)) (now (other .entry)) (now (work .entry)) (now (answer .entry)) ⌝ }
+{
+    answer_comparison(sheet, other, work, answer, Comparison::EqualsDatatype)
+}
+
+// `Schema::contains`.
+pub fn contains(sheet: &[u8], other: &[u8], work: &mut [u8], answer: &mut [u8]) -> Outcome
+    ensures { λ r. ⌜ leaves r (now (answer .exit)) (now (work .exit)) ≡ containsCall (now (sheet .entry)) (now (other .entry)) (now (work .entry)) (now (answer .entry)) ⌝ }
+{
+    answer_comparison(sheet, other, work, answer, Comparison::Contains)
 }
 
 // One byte for each column, over the answer's beginning, of so many columns that stand one behind the other at a place.

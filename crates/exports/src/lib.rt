@@ -4,7 +4,7 @@
 use buffer::Outcome;
 ghost use mathlib.Core.Path.{_≡_};
 ghost use mathlib.Core.List.{[]};
-ghost use Rattle.model.specs.Call.{isNestedCall, equalCall, indexOfCall, flattenedFieldsCall, tryNewCall, tryFromFieldsCall};
+ghost use Rattle.model.specs.Call.{isNestedCall, equalCall, equalsDatatypeCall, containsCall, indexOfCall, flattenedFieldsCall, tryNewCall, tryFromFieldsCall};
 ghost use Rattle.exports.specs.Told.{told};
 
 // Writes place and length, and gives the number.
@@ -71,6 +71,36 @@ pub extern "C" fn sheets_equal(
     ensures { λ r. ⌜ told r (now (place .exit)) (now (length .exit)) (now (answer .exit)) (now (work .exit)) ≡ equalCall (now (sheet .entry)) (now (other .entry)) (now (work .entry)) (now (answer .entry)) ⌝ }
 {
     let outcome = datatype::equal(sheet, other, work, answer);
+    tell(outcome, place, length)
+}
+
+#[no_mangle]
+pub extern "C" fn sheets_equals_datatype(
+    sheet: &[u8],
+    other: &[u8],
+    work: &mut [u8],
+    answer: &mut [u8],
+    place: &mut usize,
+    length: &mut usize,
+) -> u8
+    ensures { λ r. ⌜ told r (now (place .exit)) (now (length .exit)) (now (answer .exit)) (now (work .exit)) ≡ equalsDatatypeCall (now (sheet .entry)) (now (other .entry)) (now (work .entry)) (now (answer .entry)) ⌝ }
+{
+    let outcome = datatype::equals_datatype(sheet, other, work, answer);
+    tell(outcome, place, length)
+}
+
+#[no_mangle]
+pub extern "C" fn sheets_contains(
+    sheet: &[u8],
+    other: &[u8],
+    work: &mut [u8],
+    answer: &mut [u8],
+    place: &mut usize,
+    length: &mut usize,
+) -> u8
+    ensures { λ r. ⌜ told r (now (place .exit)) (now (length .exit)) (now (answer .exit)) (now (work .exit)) ≡ containsCall (now (sheet .entry)) (now (other .entry)) (now (work .entry)) (now (answer .entry)) ⌝ }
+{
+    let outcome = datatype::contains(sheet, other, work, answer);
     tell(outcome, place, length)
 }
 

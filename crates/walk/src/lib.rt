@@ -108,7 +108,7 @@ pub fn skip_metadata(s: &[u8], at: usize) -> usize
 }
 
 // A string under a bit of a map.
-fn skip_text_if(s: &[u8], at: usize, set: bool) -> usize
+pub fn skip_text_if(s: &[u8], at: usize, set: bool) -> usize
     ensures { λ r. ⌜ ((t : Bytes) → stands t ≡ set → Skips (now (s .entry)) at (part textBytes t) r) ⌝ }
 {
     if set {

@@ -1,8 +1,8 @@
 -- `same_head`: the maps, then the bytes behind them.
 use borrow.Author.Needs.{needs}
 use Rattle.datatype.proofs.Heads.{heads-by-low, heads-by-high, heads-by-rest}
-use Rattle.datatype.proofs.same_head.Statement.{statement}
-use Rattle.datatype.proofs.same_head.Tie as tie
+use Rattle.datatype.proofs.compare.same_head.Statement.{statement}
+use Rattle.datatype.proofs.compare.same_head.Tie as tie
 
 pub same-head-spec : {M : Type 1} → statement M
 same-head-spec =

@@ -1,8 +1,8 @@
 -- `skip_child`: a type, a field, or an id and a field.
 use borrow.Author.Needs.{needs}
 use Rattle.datatype.proofs.Heads.{type-behind, field-behind, member-behind}
-use Rattle.datatype.proofs.skip_child.Statement.{statement}
-use Rattle.datatype.proofs.skip_child.Tie as tie
+use Rattle.datatype.proofs.compare.skip_child.Statement.{statement}
+use Rattle.datatype.proofs.compare.skip_child.Tie as tie
 
 pub skip-child-spec : {M : Type 1} → statement M
 skip-child-spec =

@@ -1,9 +1,9 @@
 -- `same_stretch`: where bytes stand, none of the tests stops.
 use borrow.Author.Needs.{needs}
 use native.Mathlib.Omega.{arith}
-use Rattle.datatype.proofs.Heads.{stretches-taken}
-use Rattle.datatype.proofs.same_stretch.Statement.{statement}
-use Rattle.datatype.proofs.same_stretch.Tie as tie
+use Rattle.datatype.proofs.Texts.{stretches-taken}
+use Rattle.datatype.proofs.metadata.same_stretch.Statement.{statement}
+use Rattle.datatype.proofs.metadata.same_stretch.Tie as tie
 
 pub same-stretch-spec : {M : Type 1} → statement M
 same-stretch-spec =
