@@ -67,6 +67,28 @@ uint8_t sheets_flattened_fields(const uint8_t *sheet, size_t sheet_length,
                                 uint8_t *answer, size_t answer_length,
                                 size_t *place, size_t *length);
 
+/* Schemas: the sheet of the columns that a list names, two bytes an index, the lower first. Repeats are allowed. */
+uint8_t sheets_project(const uint8_t *sheet, size_t sheet_length,
+                       const uint8_t *list, size_t list_length,
+                       uint8_t *work, size_t work_length,
+                       uint8_t *answer, size_t answer_length,
+                       size_t *place, size_t *length);
+
+/* Schemas: the same, and a repeated index is refused. */
+uint8_t sheets_project_strict(const uint8_t *sheet, size_t sheet_length,
+                              const uint8_t *list, size_t list_length,
+                              uint8_t *work, size_t work_length,
+                              uint8_t *answer, size_t answer_length,
+                              size_t *place, size_t *length);
+
+/* Schemas: the sheet with its structs taken apart down to a level (0: no limit), names joined by the
+ * separator. */
+uint8_t sheets_normalize(const uint8_t *sheet, size_t sheet_length,
+                         const uint8_t *separator, size_t separator_length, uint16_t max_level,
+                         uint8_t *work, size_t work_length,
+                         uint8_t *answer, size_t answer_length,
+                         size_t *place, size_t *length);
+
 #ifdef __cplusplus
 }
 #endif

@@ -41,6 +41,10 @@ acceptance-written b work answer e w h k =
     rw (e, w, pasted-zero answer b)
     (sym (choose-false _ _ _ (le-ltb maxSheetBytes (length b) h) ∙ choose-false _ _ _ (le-ltb (length answer) (length b) k)))
 
+-- an answer that is another's
+pub settled-as : {x : Exit} {o p : Answer} (work answer : Bytes) → o ≡ p → x ≡ settled p work answer → x ≡ settled o work answer
+settled-as work answer e h = h ∙ sym (ap (λ o. settled o work answer) e)
+
 -- The call's cases: 32; a refusal; bytes. `t` is the code's answer to whether the work buffer is short
 
 module _ (given : ℕ) (outcome : Answer) (work answer : Bytes) {t : Bool} (tested : t ≡ ltb (length work) (workBytesPerSheetByte * given)) where

@@ -75,6 +75,15 @@ pub two-bytes : (v : ℕ) → v < 65536 → _≡_ {A = Bytes} (v % 256 ∷ v / 2
 unfolding u16
 two-bytes v h = let e : v / 256 % 256 ≡ v / 256 = omega (arith, h) in ap (λ n. v % 256 ∷ n ∷ []) e
 
+-- the two bytes that `put_two` writes and what stands behind them, where the number is right unless these pass the longest answer
+pub puts-two : (n : ℕ) (b : Bytes) {k : ℕ} {w : Bytes} {p : ℕ} {w₁ : Bytes} {q : ℕ} {w₂ : Bytes} {r : ℕ} → (p + 2 + length b ≤ maxSheetBytes → (k ≡ n) × (n < 65536))
+    → Puts (k % 256 ∷ k / 256 % 256 ∷ []) w p w₁ q → Puts b w₁ q w₂ r → Puts (u16 n ++ b) w p w₂ r
+unfolding u16
+puts-two n b {k} h f g =
+    puts-as ((k % 256 ∷ k / 256 % 256 ∷ []) ++ b) (u16 n ++ b) refl
+    (λ i. let (e, small) = h (omega (arith, i)) in ap (λ t. t ++ b) (ap (λ k. k % 256 ∷ k / 256 % 256 ∷ []) e ∙ two-bytes n small))
+    (puts-join (k % 256 ∷ k / 256 % 256 ∷ []) b f g)
+
 -- The end of a call: the bytes were put into some buffer from its start on, for their length n, and v is the number for such a length
 
 module _ (b : Bytes) {w w′ : Bytes} {n : ℕ} (f : Puts b w 0 w′ n) where

@@ -4,7 +4,8 @@
 use buffer::Outcome;
 ghost use mathlib.Core.Path.{_≡_};
 ghost use mathlib.Core.List.{[]};
-ghost use Rattle.model.specs.Call.{isNestedCall, equalCall, equalsDatatypeCall, containsCall, indexOfCall, flattenedFieldsCall, tryNewCall, tryFromFieldsCall};
+ghost use mathlib.Core.Bool.{true, false};
+ghost use Rattle.model.specs.Call.{tryNewCall, tryFromFieldsCall, isNestedCall, equalCall, equalsDatatypeCall, containsCall, indexOfCall, flattenedFieldsCall, projectCall, normalizeCall};
 ghost use Rattle.exports.specs.Told.{told};
 
 // Writes place and length, and gives the number.
@@ -131,5 +132,51 @@ pub extern "C" fn sheets_flattened_fields(
     ensures { λ r. ⌜ told r (now (place .exit)) (now (length .exit)) (now (answer .exit)) (now (work .exit)) ≡ flattenedFieldsCall (now (sheet .entry)) (now (work .entry)) (now (answer .entry)) ⌝ }
 {
     let outcome = schema::flattened_fields(sheet, work, answer);
+    tell(outcome, place, length)
+}
+
+#[no_mangle]
+pub extern "C" fn sheets_project(
+    sheet: &[u8],
+    list: &[u8],
+    work: &mut [u8],
+    answer: &mut [u8],
+    place: &mut usize,
+    length: &mut usize,
+) -> u8
+    ensures { λ r. ⌜ told r (now (place .exit)) (now (length .exit)) (now (answer .exit)) (now (work .exit)) ≡ projectCall false (now (sheet .entry)) (now (list .entry)) (now (work .entry)) (now (answer .entry)) ⌝ }
+{
+    let outcome = project::project(sheet, list, work, answer);
+    tell(outcome, place, length)
+}
+
+#[no_mangle]
+pub extern "C" fn sheets_project_strict(
+    sheet: &[u8],
+    list: &[u8],
+    work: &mut [u8],
+    answer: &mut [u8],
+    place: &mut usize,
+    length: &mut usize,
+) -> u8
+    ensures { λ r. ⌜ told r (now (place .exit)) (now (length .exit)) (now (answer .exit)) (now (work .exit)) ≡ projectCall true (now (sheet .entry)) (now (list .entry)) (now (work .entry)) (now (answer .entry)) ⌝ }
+{
+    let outcome = project::project_strict(sheet, list, work, answer);
+    tell(outcome, place, length)
+}
+
+#[no_mangle]
+pub extern "C" fn sheets_normalize(
+    sheet: &[u8],
+    separator: &[u8],
+    max_level: u16,
+    work: &mut [u8],
+    answer: &mut [u8],
+    place: &mut usize,
+    length: &mut usize,
+) -> u8
+    ensures { λ r. ⌜ told r (now (place .exit)) (now (length .exit)) (now (answer .exit)) (now (work .exit)) ≡ normalizeCall (now (sheet .entry)) (now (separator .entry)) «max_level» (now (work .entry)) (now (answer .entry)) ⌝ }
+{
+    let outcome = normalize::normalize(sheet, separator, max_level, work, answer);
     tell(outcome, place, length)
 }

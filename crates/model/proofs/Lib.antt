@@ -28,6 +28,7 @@ pub mod Look
 pub mod Search
 pub mod Unions
 pub mod Projection
+pub mod Entries
 pub mod OrderFlags
 pub mod Normalized
 pub mod Flattened

@@ -1,7 +1,7 @@
 -- What the columns of a normalised schema are: each has the nullability and the type of the field that it was made of.
 use Prim.Native.Nat.{ℕ, zero, suc}
-use mathlib.Core.Path.{_≡_, refl, ap, ap₂, _∙_}
-use mathlib.Core.List.{List, [], _∷_, _++_, map}
+use mathlib.Core.Path.{_≡_, refl, sym, ap, ap₂, _∙_}
+use mathlib.Core.List.{List, [], _∷_, _++_, map, append-assoc}
 use mathlib.Core.Bool.{Bool, true, false, _&&_, _||_}
 use lib.ListN.{length-map}
 use lib.Dec.{eqb, ltb}
@@ -10,7 +10,7 @@ use Rattle.model.specs.Bytes.{Bytes, choose, Every, u16}
 use Rattle.model.specs.Tree.{FieldOver, DataType, Field, Struct, Children, fields, keyAndValue, counted, countedWithIds, layout}
 use Rattle.model.specs.Sheet.{each, withCount, headBytes, fieldBytes, childrenBytes, typeBytes}
 use Rattle.model.specs.Schema.{lift, plainColumn, join, expand, normalizedColumns}
-use Rattle.model.proofs.Gives.{choose-false}
+use Rattle.model.proofs.Gives.{choose-true, choose-false}
 use Rattle.model.proofs.Lists.{every-append}
 
 -- A type with a level to spare
@@ -55,6 +55,16 @@ unfolding join
 every-join P f h [] = tt
 every-join P f h (x ∷ xs) = every-append P (f x) (join f xs) (h x) (every-join P f h xs)
 
+pub join-append : {A B : Type 0} (f : A → List B) (xs ys : List A) → join f (xs ++ ys) ≡ join f xs ++ join f ys
+unfolding join
+join-append f [] ys = refl
+join-append f (x ∷ xs) ys = ap (λ r. f x ++ r) (join-append f xs ys) ∙ sym (append-assoc (f x) (join f xs) (join f ys))
+
+pub join-same : {A B : Type 0} (f g : A → List B) → ((x : A) → f x ≡ g x) → (xs : List A) → join f xs ≡ join g xs
+unfolding join
+join-same f g e [] = refl
+join-same f g e (x ∷ xs) = ap₂ _++_ (e x) (join-same f g e xs)
+
 -- The fields that are written as columns
 
 -- the nullability and the type's bytes of each field that becomes a column: those of a Struct's children where it is opened, else the field's own
@@ -90,6 +100,19 @@ module _ (separator : Bytes) (maxLevel : ℕ) where
   -- the name that a child's columns begin with
   abbrev under : {T : Type 0} → Bytes → FieldOver T → Bytes
   under name c = name ++ (separator ++ c .head .name)
+
+  -- a Struct that is expanded becomes the columns of its children, any other field one column
+  module _ (l : ℕ) (up : DataType (suc l) → DataType maxLevels) (depth : ℕ) (name : Bytes) (nullable : Bool) (t : DataType (suc l)) where
+    pub expand-children : (eqb (t .code) Struct && (eqb maxLevel 0 || ltb depth maxLevel)) ≡ true
+        → expand separator maxLevel (suc l) up depth name nullable t
+        ≡ join (λ c. expand separator maxLevel l (λ x. up (lift l x)) (suc depth) (under name c) (c .head .nullable) (c .dataType)) (t .children)
+    unfolding expand
+    expand-children h = choose-true _ _ _ h
+
+    pub expand-itself : (eqb (t .code) Struct && (eqb maxLevel 0 || ltb depth maxLevel)) ≡ false
+        → expand separator maxLevel (suc l) up depth name nullable t ≡ plainColumn name nullable (up t) ∷ []
+    unfolding expand
+    expand-itself h = choose-false _ _ _ h
 
   expand-written : (l : ℕ) (up : DataType l → DataType maxLevels) → ((t : DataType l) → typeBytes maxLevels (up t) ≡ typeBytes l t)
       → (depth : ℕ) (name : Bytes) (f : Field l)

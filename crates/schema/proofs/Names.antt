@@ -3,18 +3,18 @@ use Prim.Native.Nat.{ℕ, _+_, _/_, _%_, _≤_, _<_}
 use native.Mathlib.Omega.{arith}
 use mathlib.Core.Path.{_≡_, refl, sym, ap, subst, _∙_}
 use mathlib.Core.List.{List, [], _∷_, _++_}
-use mathlib.Core.Bool.{Bool, true, false, false≢true}
+use mathlib.Core.Bool.{Bool, true, false}
 use lib.ListN.{length, getD, take, drop, length-append}
 use lib.Dec.{eqb}
 use lib.Seq.{take-length, take-append-seam}
-use borrow.Author.Tests.{eq-eqb, ne-eqb}
+use borrow.Author.Tests.{ne-eqb}
 use Rattle.model.specs.Numbers.{maxLevels, noSuchColumn}
 use Rattle.model.specs.Bytes.{Bytes, Every, Found, found, missing, position, same, sameBytes, u16}
 use Rattle.model.specs.Tree.{Head, Field, Schema}
-use Rattle.model.specs.Sheet.{each, stands, part, withCount, pairBytes, textBytes, headBytes, columnBytes, sheetBytes}
+use Rattle.model.specs.Sheet.{each, textBytes, headBytes, columnBytes, sheetBytes}
 use Rattle.model.specs.WellFormed.{LaidOut, Fits}
 use Rattle.model.specs.Schema.{ifFound}
-use Rattle.model.specs.Call.{Answer, bytes, andThen, Exit, refusal, acceptance, settled}
+use Rattle.model.specs.Call.{bytes, andThen, Exit, refusal, acceptance, settled}
 use Rattle.model.proofs.Lists.{every-append}
 use Rattle.model.proofs.WellFormed.{columns-laid-out}
 use Rattle.model.proofs.Look.{position-found}
@@ -24,19 +24,18 @@ use Rattle.buffer.specs.Leaves.{leaves, refusedWith}
 use Rattle.buffer.proofs.Ends.{leaves-refusal}
 use Rattle.walk.specs.Stands.{Stands, SkipsField, ColumnsAt}
 use Rattle.walk.proofs.Schemas.{sheet-columns}
-use Rattle.walk.proofs.Descents.{head-stands}
+use Rattle.walk.proofs.Descents.{head-stands, name-stands, no-name, body-stands}
 use Rattle.walk.proofs.Passed.{Passed, Here, passed-begin, passed-again, passed-here, passed-done}
 use Rattle.schema.specs.declared.Match.{Match}
 use Rattle.schema.specs.Answers.{matchOf, Narrow}
-use Rattle.walk.proofs.Standing.{whole-stands, first-stands, byte-stands, two-stands, num-u16, stands-behind, skip-ahead}
-use Rattle.walk.proofs.Parts.{Ahead, twoAt, name-bit}
+use Rattle.walk.proofs.Standing.{whole-stands, first-stands, two-stands, num-u16}
+use Rattle.walk.proofs.Parts.{Ahead, twoAt}
 
 -- The text that stands at a place
 
 module _ {s : Bytes} {place body n : ℕ} (a : Ahead s place 2 body) (e : n ≡ twoAt s place) (t : Bytes) (st : Stands s place (textBytes t)) where
-  body-is : body ≡ place + 2
-  unfolding textBytes u16
-  body-is = a .1 (omega (arith, st .inside))
+  body-is : (body ≡ place + 2) × Stands s body t
+  body-is = body-stands t a st
 
   size-is : n ≡ length t
   unfolding textBytes u16
@@ -45,13 +44,10 @@ module _ {s : Bytes} {place body n : ℕ} (a : Ahead s place 2 body) (e : n ≡ 
   -- it is as long as said, inside the bytes
   pub text-inside : body + n ≤ length s
   unfolding textBytes u16
-  text-inside = omega (arith, body-is, size-is, st .inside)
+  text-inside = omega (arith, body-is .0, size-is, st .inside)
 
   pub text-is : take n (drop body s) ≡ t
-  unfolding textBytes u16
-  text-is =
-      let b = stands-behind (skip-ahead (u16 (length t)) refl (a .1)) st in
-      ap (λ k. take k (drop body s)) size-is ∙ ap (take (length t)) (b .bytes) ∙ take-append-seam t _
+  text-is = ap (λ k. take k (drop body s)) size-is ∙ ap (take (length t)) (body-is .1 .bytes) ∙ take-append-seam t _
 
   -- so it is compared
   pub text-compared : {r : Bool} (name : Bytes) (k : ℕ) → r ≡ sameBytes (take k (drop body s)) name → k ≡ n → r ≡ sameBytes t name
@@ -69,25 +65,12 @@ abbrev Names : (s : Bytes) (place : ℕ) (name : Bytes) → Bool → Type 0
 Names s place name r = (h : Head) → Stands s place (headBytes h) → r ≡ sameBytes (h .name) name
 
 module _ {s : Bytes} {place map : ℕ} (e : map ≡ getD s place 0) where
-  bit-is : (h : Head) → Stands s place (headBytes h) → eqb (map / 4 % 2) 1 ≡ stands (h .name)
-  unfolding headBytes
-  bit-is h st = ap (λ n. eqb (n / 4 % 2) 1) (e ∙ byte-stands st) ∙ name-bit (h .nullable) (h .dictIsOrdered) (stands (h .name)) (stands (h .metadata))
-
   pub named : {body : ℕ} {r : Bool} (name : Bytes) → map / 4 % 2 ≡ 1 → Ahead s place 1 body
       → ((t : Bytes) → Stands s body (textBytes t) → r ≡ sameBytes t name) → Names s place name r
-  unfolding headBytes
-  named {body} {r} name b a f h st = go (h .name) (sym (bit-is h st) ∙ eq-eqb _ 1 b) (stands-behind (skip-ahead (_ ∷ []) refl (a .1)) st)
-    where
-      go : (m : Bytes) → stands m ≡ true → Stands s body (part textBytes m ++ part (withCount pairBytes) (h .metadata)) → r ≡ sameBytes m name
-      go [] i u = absurd (false≢true i)
-      go (x ∷ m) i u = f (x ∷ m) (first-stands (textBytes (x ∷ m)) _ u)
+  named name b a f h st = f (h .name) (name-stands e b a h st)
 
   pub unnamed : {r : Bool} (name : Bytes) → (map / 4 % 2 ≡ 1 → ⊥) → r ≡ eqb (length name) 0 → Names s place name r
-  unnamed {r} name b k h st = go (h .name) (sym (bit-is h st) ∙ ne-eqb _ 1 b)
-    where
-      go : (m : Bytes) → stands m ≡ false → r ≡ sameBytes m name
-      go [] i = k ∙ none-same name
-      go (x ∷ m) i = absurd (false≢true (sym i))
+  unnamed name b k h st = k ∙ none-same name ∙ ap (λ m. sameBytes m name) (sym (no-name e b h st))
 
 -- The first of the columns that has a name
 
@@ -177,7 +160,3 @@ module _ {m : Match} (work answer : Bytes) where
   unfolding settled andThen ifFound
   index-missing h k z (found j) e w = absurd (let z : _≡_ {A = ℕ} 0 1 = cc in omega arith)
   index-missing h k z missing e w = leaves-refusal noSuchColumn 0 _ answer k ∙ ap (λ v. refusal noSuchColumn 0 v answer) z
-
--- an answer that is another's
-pub settled-as : {x : Exit} {o p : Answer} (work answer : Bytes) → o ≡ p → x ≡ settled p work answer → x ≡ settled o work answer
-settled-as work answer e h = h ∙ sym (ap (λ o. settled o work answer) e)

@@ -1,16 +1,20 @@
 -- From a part of a sheet to the parts in it, by the places that the code's steps give: what a caller of `walk` goes down with.
-use Prim.Native.Nat.{ℕ, suc}
-use mathlib.Core.Path.{_≡_, refl, sym, subst, _∙_}
+use Prim.Native.Nat.{ℕ, suc, _+_, _/_, _%_}
+use native.Mathlib.Omega.{arith}
+use mathlib.Core.Path.{_≡_, refl, sym, ap, subst, _∙_}
 use mathlib.Core.List.{List, [], _∷_, _++_}
+use mathlib.Core.Bool.{true, false, false≢true}
 use lib.ListN.{length, getD}
-use Rattle.model.specs.Bytes.{Bytes, u16}
+use lib.Dec.{eqb}
+use borrow.Author.Tests.{eq-eqb, ne-eqb}
+use Rattle.model.specs.Bytes.{Bytes, u16, flag}
 use Rattle.model.specs.Tree.{Head, DataType, Field, layout}
-use Rattle.model.specs.Sheet.{each, withCount, headBytes, fieldBytes, childrenBytes, typeBytes}
+use Rattle.model.specs.Sheet.{each, part, stands, withCount, pairBytes, textBytes, headBytes, fieldBytes, childrenBytes, typeBytes}
 use Rattle.model.specs.WellFormed.{WellFormedParams, LaidOut}
 use Rattle.model.proofs.Lists.{each-append}
 use Rattle.walk.specs.Stands.{Stands, Skips}
 use Rattle.walk.proofs.Standing.{first-stands, byte-stands, two-stands, num-u16, stands-behind, skip-ahead}
-use Rattle.walk.proofs.Parts.{Ahead, twoAt}
+use Rattle.walk.proofs.Parts.{Ahead, twoAt, name-bit, nullable-bit}
 
 module _ {s : Bytes} {place : ℕ} where
   -- Fields
@@ -23,6 +27,40 @@ module _ {s : Bytes} {place : ℕ} where
   pub type-stands : (l : ℕ) (f : Field l) {m : ℕ} → ((h : Head) → Skips s place (headBytes h) m) → Stands s place (fieldBytes (typeBytes l) f) → Stands s m (typeBytes l (f .dataType))
   unfolding fieldBytes
   type-stands l f g st = stands-behind (g (f .head)) st
+
+  -- What a head says, by its map
+
+  module _ {map : ℕ} (e : map ≡ getD s place 0) where
+    pub nullable-stands : (h : Head) → Stands s place (headBytes h) → map % 2 ≡ flag 1 (h .nullable)
+    unfolding headBytes
+    nullable-stands h st =
+        ap (λ m. m % 2) (e ∙ byte-stands st) ∙ nullable-bit (h .nullable) (h .dictIsOrdered) (stands (h .name)) (stands (h .metadata))
+
+    named : (h : Head) → Stands s place (headBytes h) → eqb (map / 4 % 2) 1 ≡ stands (h .name)
+    unfolding headBytes
+    named h st = ap (λ m. eqb (m / 4 % 2) 1) (e ∙ byte-stands st) ∙ name-bit (h .nullable) (h .dictIsOrdered) (stands (h .name)) (stands (h .metadata))
+
+    -- a name stands behind the map
+    pub name-stands : {text : ℕ} → map / 4 % 2 ≡ 1 → Ahead s place 1 text → (h : Head) → Stands s place (headBytes h) → Stands s text (textBytes (h .name))
+    unfolding headBytes
+    name-stands {text} b a h st = go (h .name) (sym (named h st) ∙ eq-eqb _ 1 b) (stands-behind (skip-ahead (_ ∷ []) refl (a .1)) st)
+      where
+        go : (m : Bytes) → stands m ≡ true → Stands s text (part textBytes m ++ part (withCount pairBytes) (h .metadata)) → Stands s text (textBytes m)
+        go [] i u = absurd (false≢true i)
+        go (x ∷ m) i u = first-stands (textBytes (x ∷ m)) _ u
+
+    -- without its bit it is empty
+    pub no-name : (map / 4 % 2 ≡ 1 → ⊥) → (h : Head) → Stands s place (headBytes h) → h .name ≡ []
+    no-name b h st = go (h .name) (sym (named h st) ∙ ne-eqb _ 1 b)
+      where
+        go : (m : Bytes) → stands m ≡ false → m ≡ []
+        go [] i = refl
+        go (x ∷ m) i = absurd (false≢true (sym i))
+
+  -- the body of a text
+  pub body-stands : (t : Bytes) {body : ℕ} → Ahead s place 2 body → Stands s place (textBytes t) → (body ≡ place + 2) × Stands s body t
+  unfolding textBytes u16
+  body-stands t a st = (a .1 (omega (arith, st .inside)), stands-behind (skip-ahead (u16 (length t)) refl (a .1)) st)
 
   -- Types
 

@@ -67,6 +67,10 @@ module _ (a b c d : Bool) where
   pub name-bit : eqb ((flag 1 a + flag 2 b + flag 4 c + flag 8 d) / 4 % 2) 1 ≡ c
   name-bit = is-one ((flag 1 a + flag 2 b + flag 4 c + flag 8 d) / 4 % 2) c (omega (arith, flag-one 1 a, flag-one 2 b, flag-one 4 c, flag-one 8 d))
 
+  -- the nullable bit, as a number
+  pub nullable-bit : (flag 1 a + flag 2 b + flag 4 c + flag 8 d) % 2 ≡ flag 1 a
+  nullable-bit = omega (arith, flag-one 1 a, flag-one 2 b, flag-one 4 c, flag-one 8 d)
+
   pub metadata-bit : eqb ((flag 1 a + flag 2 b + flag 4 c + flag 8 d) / 8 % 2) 1 ≡ d
   metadata-bit = is-one ((flag 1 a + flag 2 b + flag 4 c + flag 8 d) / 8 % 2) d (omega (arith, flag-one 1 a, flag-one 2 b, flag-one 4 c, flag-one 8 d))
 

@@ -1,5 +1,5 @@
 -- Where the columns of a sheet stand.
-use Prim.Native.Nat.{ℕ, _/_, _%_, _≤_}
+use Prim.Native.Nat.{ℕ, _/_, _%_, _≤_, _<_}
 use native.Mathlib.Omega.{arith}
 use mathlib.Core.Path.{_≡_, refl, sym, ap, _∙_}
 use mathlib.Core.List.{List, [], _∷_}
@@ -70,7 +70,7 @@ sheet-skips g f x w = record {
 }
 
 -- a column takes a byte at least, so there are no more columns than bytes
-each-column : (fs : List (Field maxLevels)) → length fs ≤ length (each columnBytes fs)
+pub each-column : (fs : List (Field maxLevels)) → length fs ≤ length (each columnBytes fs)
 unfolding headBytes fieldBytes
 each-column [] = omega arith
 each-column (f ∷ fs) = omega (arith, each-column fs, length-append (columnBytes f) (each columnBytes fs), length-append (headBytes (f .head)) (typeBytes maxLevels (f .dataType)))
@@ -78,10 +78,11 @@ each-column (f ∷ fs) = omega (arith, each-column fs, length-append (columnByte
 pub columns-few : {s : Bytes} {place n first : ℕ} {x : Schema} → ColumnsAt s place x n first → n ≤ length s
 columns-few {s} {place} {n} {first} {x} c = omega (arith, c .count, each-column (x .columns), c .stands .inside)
 
-pub sheet-columns : (x : Schema) → length (x .columns) ≤ length (sheetBytes x)
+-- and fewer than the sheet has, which has a map too
+pub sheet-columns : (x : Schema) → length (x .columns) < length (sheetBytes x)
 unfolding sheetBytes withCount u16
 sheet-columns x = go (x .columns)
   where
-    go : (cs : List (Field maxLevels)) → length cs ≤ length (sheetBytes (record { metadata = x .metadata; columns = cs }))
+    go : (cs : List (Field maxLevels)) → length cs < length (sheetBytes (record { metadata = x .metadata; columns = cs }))
     go [] = omega arith
     go (c ∷ cs) = omega (arith, each-column (c ∷ cs), length-append (part (withCount pairBytes) (x .metadata)) (withCount columnBytes (c ∷ cs)))

@@ -118,7 +118,7 @@ pub fn skip_text_if(s: &[u8], at: usize, set: bool) -> usize
 }
 
 // Metadata under a bit of a map.
-fn skip_metadata_if(s: &[u8], at: usize, set: bool) -> usize
+pub fn skip_metadata_if(s: &[u8], at: usize, set: bool) -> usize
     ensures { λ r. ⌜ ((m : Metadata) → stands m ≡ set → Skips (now (s .entry)) at (part (withCount pairBytes) m) r) ⌝ }
 {
     if set {

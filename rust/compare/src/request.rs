@@ -75,9 +75,9 @@ impl Operation {
             }
             Self::FlattenedFields => cfg!(feature = "flattening"),
             Self::EqualsDatatype | Self::Contains => cfg!(feature = "comparing"),
-            Self::Merge | Self::Project | Self::ProjectStrict | Self::Filter | Self::Normalize => {
-                cfg!(feature = "writing")
-            }
+            Self::Project | Self::ProjectStrict => cfg!(feature = "projecting"),
+            Self::Normalize => cfg!(feature = "normalizing"),
+            Self::Merge | Self::Filter => cfg!(feature = "writing"),
         }
     }
 

@@ -57,15 +57,21 @@ impl Side for Library {
             Operation::Contains => sheets::contains(first, second, work, answer),
             #[cfg(feature = "writing")]
             Operation::Merge => sheets::merge(first, work, answer),
-            #[cfg(feature = "writing")]
+            #[cfg(feature = "projecting")]
             Operation::Project => sheets::project(first, second, work, answer),
-            #[cfg(feature = "writing")]
+            #[cfg(feature = "projecting")]
             Operation::ProjectStrict => sheets::project_strict(first, second, work, answer),
             #[cfg(feature = "writing")]
             Operation::Filter => sheets::filter(first, second, work, answer),
-            #[cfg(feature = "writing")]
+            #[cfg(feature = "normalizing")]
             Operation::Normalize => sheets::normalize(first, second, number, work, answer),
-            #[cfg(not(all(feature = "flattening", feature = "comparing", feature = "writing")))]
+            #[cfg(not(all(
+                feature = "flattening",
+                feature = "comparing",
+                feature = "projecting",
+                feature = "normalizing",
+                feature = "writing"
+            )))]
             _ => panic!("{} is not linked", request.operation.name()),
         };
         Exit {

@@ -83,6 +83,8 @@ fn the_library_agrees_on_a_short_run() {
         ("try_from_fields ", true),
         ("flattened_fields ", cfg!(feature = "flattening")),
         ("contains ", cfg!(feature = "comparing")),
+        ("project ", cfg!(feature = "projecting")),
+        ("normalize ", cfg!(feature = "normalizing")),
         ("merge ", cfg!(feature = "writing")),
     ] {
         let compared = text.lines().any(|line| line.starts_with(operation));

@@ -108,19 +108,8 @@ unsafe extern "C" {
     ) -> u8;
 }
 
-#[cfg(feature = "writing")]
+#[cfg(feature = "projecting")]
 unsafe extern "C" {
-    pub(crate) fn sheets_merge(
-        train: *const u8,
-        train_length: usize,
-        work: *mut u8,
-        work_length: usize,
-        answer: *mut u8,
-        answer_length: usize,
-        place: *mut usize,
-        length: *mut usize,
-    ) -> u8;
-
     pub(crate) fn sheets_project(
         sheet: *const u8,
         sheet_length: usize,
@@ -146,12 +135,30 @@ unsafe extern "C" {
         place: *mut usize,
         length: *mut usize,
     ) -> u8;
+}
 
-    pub(crate) fn sheets_filter(
+#[cfg(feature = "normalizing")]
+unsafe extern "C" {
+    pub(crate) fn sheets_normalize(
         sheet: *const u8,
         sheet_length: usize,
-        mask: *const u8,
-        mask_length: usize,
+        separator: *const u8,
+        separator_length: usize,
+        level: u16,
+        work: *mut u8,
+        work_length: usize,
+        answer: *mut u8,
+        answer_length: usize,
+        place: *mut usize,
+        length: *mut usize,
+    ) -> u8;
+}
+
+#[cfg(feature = "writing")]
+unsafe extern "C" {
+    pub(crate) fn sheets_merge(
+        train: *const u8,
+        train_length: usize,
         work: *mut u8,
         work_length: usize,
         answer: *mut u8,
@@ -160,12 +167,11 @@ unsafe extern "C" {
         length: *mut usize,
     ) -> u8;
 
-    pub(crate) fn sheets_normalize(
+    pub(crate) fn sheets_filter(
         sheet: *const u8,
         sheet_length: usize,
-        separator: *const u8,
-        separator_length: usize,
-        level: u16,
+        mask: *const u8,
+        mask_length: usize,
         work: *mut u8,
         work_length: usize,
         answer: *mut u8,

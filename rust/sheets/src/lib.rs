@@ -33,6 +33,10 @@ mod comparing;
 mod exports;
 #[cfg(feature = "flattening")]
 mod flattening;
+#[cfg(feature = "normalizing")]
+mod normalizing;
+#[cfg(feature = "projecting")]
+mod projecting;
 #[cfg(feature = "writing")]
 mod writing;
 
@@ -42,8 +46,12 @@ pub use calls::{equal, index_of, is_nested, try_from_fields, try_new};
 pub use comparing::{contains, equals_datatype};
 #[cfg(feature = "flattening")]
 pub use flattening::flattened_fields;
+#[cfg(feature = "normalizing")]
+pub use normalizing::normalize;
+#[cfg(feature = "projecting")]
+pub use projecting::{project, project_strict};
 #[cfg(feature = "writing")]
-pub use writing::{filter, merge, normalize, project, project_strict};
+pub use writing::{filter, merge};
 
 /// What a call gives beside its buffers.
 #[derive(Clone, Copy, Debug, PartialEq, Eq)]

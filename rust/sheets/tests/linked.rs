@@ -126,6 +126,42 @@ fn numberings() {
     assert_eq!(from(4), (exit(31, 0, 0), vec![170; 3]));
 }
 
+#[cfg(feature = "projecting")]
+#[test]
+fn projections() {
+    let twice = [2, 2, 0, 4, 1, 0, b'v', 4, 4, 1, 0, b'v', 4];
+    let list = [0; 4];
+    let got = with(32, 13, |work, answer| {
+        sheets::project(&PLAIN, &list, work, answer)
+    });
+    assert_eq!(got, (exit(0, 0, 13), twice.to_vec()));
+    let got = with(32, 13, |work, answer| {
+        sheets::project_strict(&PLAIN, &list, work, answer)
+    });
+    assert_eq!(got, (exit(11, 1, 0), vec![170; 13]));
+}
+
+#[cfg(feature = "normalizing")]
+#[test]
+fn normalize() {
+    // s:Struct{a:Struct{b:Int8}}
+    let nested = [
+        2, 1, 0, 4, 1, 0, b's', 32, 1, 0, 4, 1, 0, b'a', 32, 1, 0, 4, 1, 0, b'b', 2,
+    ];
+    let flat = [2, 1, 0, 4, 5, 0, b's', b'-', b'a', b'-', b'b', 2];
+    let got = with(88, 12, |work, answer| {
+        sheets::normalize(&nested, b"-", 0, work, answer)
+    });
+    assert_eq!(got, (exit(0, 0, 12), flat.to_vec()));
+    let once = [
+        2, 1, 0, 4, 3, 0, b's', b'-', b'a', 32, 1, 0, 4, 1, 0, b'b', 2,
+    ];
+    let got = with(88, 17, |work, answer| {
+        sheets::normalize(&nested, b"-", 1, work, answer)
+    });
+    assert_eq!(got, (exit(0, 0, 17), once.to_vec()));
+}
+
 #[cfg(feature = "writing")]
 mod writing {
     use super::*;
@@ -141,20 +177,6 @@ mod writing {
     }
 
     #[test]
-    fn projections() {
-        let twice = [2, 2, 0, 4, 1, 0, b'v', 4, 4, 1, 0, b'v', 4];
-        let list = [0; 4];
-        let got = with(32, 13, |work, answer| {
-            sheets::project(&PLAIN, &list, work, answer)
-        });
-        assert_eq!(got, (exit(0, 0, 13), twice.to_vec()));
-        let got = with(32, 13, |work, answer| {
-            sheets::project_strict(&PLAIN, &list, work, answer)
-        });
-        assert_eq!(got, (exit(11, 1, 0), vec![170; 13]));
-    }
-
-    #[test]
     fn filter() {
         let sheet = &SHEET[..LENGTH];
         let got = with(48, 8, |work, answer| {
@@ -165,25 +187,5 @@ mod writing {
             sheets::filter(sheet, &[1, 1], work, answer)
         });
         assert_eq!(got, (exit(12, 0, 0), vec![170; 8]));
-    }
-
-    #[test]
-    fn normalize() {
-        // s:Struct{a:Struct{b:Int8}}
-        let nested = [
-            2, 1, 0, 4, 1, 0, b's', 32, 1, 0, 4, 1, 0, b'a', 32, 1, 0, 4, 1, 0, b'b', 2,
-        ];
-        let flat = [2, 1, 0, 4, 5, 0, b's', b'-', b'a', b'-', b'b', 2];
-        let got = with(88, 12, |work, answer| {
-            sheets::normalize(&nested, b"-", 0, work, answer)
-        });
-        assert_eq!(got, (exit(0, 0, 12), flat.to_vec()));
-        let once = [
-            2, 1, 0, 4, 3, 0, b's', b'-', b'a', 32, 1, 0, 4, 1, 0, b'b', 2,
-        ];
-        let got = with(88, 17, |work, answer| {
-            sheets::normalize(&nested, b"-", 1, work, answer)
-        });
-        assert_eq!(got, (exit(0, 0, 17), once.to_vec()));
     }
 }

@@ -1,9 +1,9 @@
 -- `index_of`: the call on one sheet.
 use Rattle.model.specs.Schema.{indexOf}
 use Rattle.model.specs.Call.{indexOfAnswer}
-use Rattle.buffer.proofs.Ends.{call-short, call-refused, call-settled}
+use Rattle.buffer.proofs.Ends.{call-short, call-refused, call-settled, settled-as}
 use Rattle.sheet.proofs.Reading.{sheet-refused, sheet-whole}
-use Rattle.schema.proofs.Names.{narrow-found, settled-as}
+use Rattle.schema.proofs.Names.{narrow-found}
 use borrow.Author.Needs.{needs}
 use Rattle.schema.proofs.index_of.Statement.{statement}
 use Rattle.schema.proofs.index_of.Tie as tie

@@ -1,0 +1,2 @@
+-- The definitions that the contracts of `normalize` cite.
+pub mod Expands

@@ -1,0 +1,71 @@
+// Runs what document 01's bench trials say of the calls that write a sheet: P9 (normalising), P10 (projection), index 0 of no columns.
+// Each line has the number, the place and the answer in hex, as the program merge prints them.
+use buffer::Outcome;
+
+// A line: what was called, number, space, place, space, the answer in hex or `-`.
+fn show(what: &[u8], outcome: Outcome, answer: &[u8]) {
+    io::write_all(1, what);
+    io::write_all(1, b": ");
+    io::print_decimal(1, outcome.number as u64);
+    io::write_all(1, b" ");
+    io::print_decimal(1, outcome.place as u64);
+    io::write_all(1, b" ");
+    if outcome.number == 0 {
+        hex(answer, outcome.length);
+    } else {
+        io::write_all(1, b"-");
+    }
+    io::write_all(1, b"\n");
+}
+
+// The first bytes, two digits each.
+fn hex(answer: &[u8], length: usize) {
+    let digits = b"0123456789abcdef";
+    let mut i = 0;
+    while i < length {
+        if i < answer.len() {
+            let high = (answer[i] / 16) as usize;
+            let low = (answer[i] % 16) as usize;
+            io::write_all(1, &digits[high..high + 1]);
+            io::write_all(1, &digits[low..low + 1]);
+        }
+        i += 1;
+    }
+}
+
+fn normalize(what: &[u8], sheet: &[u8], level: u16) {
+    let mut work = [0u8; 100];
+    let mut answer = [0u8; 100];
+    let outcome = normalize::normalize(sheet, b".", level, &mut work, &mut answer);
+    show(what, outcome, &answer);
+}
+
+fn project(what: &[u8], sheet: &[u8], list: &[u8]) {
+    let mut work = [0u8; 100];
+    let mut answer = [0u8; 100];
+    let outcome = project::project(sheet, list, &mut work, &mut answer);
+    show(what, outcome, &answer);
+}
+
+fn project_strict(what: &[u8], sheet: &[u8], list: &[u8]) {
+    let mut work = [0u8; 100];
+    let mut answer = [0u8; 100];
+    let outcome = project::project_strict(sheet, list, &mut work, &mut answer);
+    show(what, outcome, &answer);
+}
+
+fn main() {
+    // s:Struct{a:Int32, e:Struct{}}
+    let s = b"\x02\x01\x00\x04\x01\x00s\x20\x02\x00\x04\x01\x00a\x04\x04\x01\x00e\x20\x00\x00";
+    normalize(b"P9 level 0", s, 0);
+    normalize(b"P9 level 1", s, 1);
+    // v:Int8, and the list 0, 0
+    project(b"P10", b"\x02\x01\x00\x04\x01\x00v\x02", b"\x00\x00\x00\x00");
+    project_strict(
+        b"P10 strict",
+        b"\x02\x01\x00\x04\x01\x00v\x02",
+        b"\x00\x00\x00\x00",
+    );
+    project(b"index 0 of no columns", b"\x00", b"\x00\x00");
+    project_strict(b"index 0 of no columns, strict", b"\x00", b"\x00\x00");
+}
