@@ -89,6 +89,13 @@ uint8_t sheets_normalize(const uint8_t *sheet, size_t sheet_length,
                          uint8_t *answer, size_t answer_length,
                          size_t *place, size_t *length);
 
+/* The leaf filter: the sheet of the leaves whose mask byte is not 0. */
+uint8_t sheets_filter(const uint8_t *sheet, size_t sheet_length,
+                      const uint8_t *mask, size_t mask_length,
+                      uint8_t *work, size_t work_length,
+                      uint8_t *answer, size_t answer_length,
+                      size_t *place, size_t *length);
+
 #ifdef __cplusplus
 }
 #endif

@@ -5,7 +5,7 @@ use buffer::Outcome;
 ghost use mathlib.Core.Path.{_≡_};
 ghost use mathlib.Core.List.{[]};
 ghost use mathlib.Core.Bool.{true, false};
-ghost use Rattle.model.specs.Call.{tryNewCall, tryFromFieldsCall, isNestedCall, equalCall, equalsDatatypeCall, containsCall, indexOfCall, flattenedFieldsCall, projectCall, normalizeCall};
+ghost use Rattle.model.specs.Call.{tryNewCall, tryFromFieldsCall, isNestedCall, equalCall, equalsDatatypeCall, containsCall, indexOfCall, flattenedFieldsCall, projectCall, normalizeCall, filterCall};
 ghost use Rattle.exports.specs.Told.{told};
 
 // Writes place and length, and gives the number.
@@ -178,5 +178,21 @@ pub extern "C" fn sheets_normalize(
     ensures { λ r. ⌜ told r (now (place .exit)) (now (length .exit)) (now (answer .exit)) (now (work .exit)) ≡ normalizeCall (now (sheet .entry)) (now (separator .entry)) «max_level» (now (work .entry)) (now (answer .entry)) ⌝ }
 {
     let outcome = normalize::normalize(sheet, separator, max_level, work, answer);
+    tell(outcome, place, length)
+}
+
+// Module 6: the leaf filter.
+#[no_mangle]
+pub extern "C" fn sheets_filter(
+    sheet: &[u8],
+    mask: &[u8],
+    work: &mut [u8],
+    answer: &mut [u8],
+    place: &mut usize,
+    length: &mut usize,
+) -> u8
+    ensures { λ r. ⌜ told r (now (place .exit)) (now (length .exit)) (now (answer .exit)) (now (work .exit)) ≡ filterCall (now (sheet .entry)) (now (mask .entry)) (now (work .entry)) (now (answer .entry)) ⌝ }
+{
+    let outcome = filter::filter(sheet, mask, work, answer);
     tell(outcome, place, length)
 }

@@ -71,7 +71,7 @@ drop-take (suc n) m (x ∷ xs) = rw suc-add (drop-take n m xs)
 
 module _ {T : Type 0} (count : T → Leaves ℕ) (filter : T → Bytes → Filtered T)
     (takes : (t : T) (mask other : Bytes) → Takes mask other (count t) (filter t mask) (filter t other)) where
-  field-mask : (f : FieldOver T) (mask : Bytes) → filterField filter f mask .mask ≡ drop (fieldLeafCount (count (f .dataType))) mask
+  pub field-mask : (f : FieldOver T) (mask : Bytes) → filterField filter f mask .mask ≡ drop (fieldLeafCount (count (f .dataType))) mask
   unfolding filterField filterTo filterLeaf fieldLeafCount
   field-mask f mask = go mask (takes (f .dataType) mask mask)
     where
@@ -306,7 +306,7 @@ part-no-longer w [] ys c h = omega arith
 part-no-longer w (x ∷ xs) [] c h = omega (arith, c)
 part-no-longer w (x ∷ xs) (y ∷ ys) c h = omega (arith, h)
 
-judged-value : {A : Type 0} (n place e : ℕ) {m : ℕ} {a b : A} → judged n place a e ≡ got b m → a ≡ b
+pub judged-value : {A : Type 0} (n place e : ℕ) {m : ℕ} {a b : A} → judged n place a e ≡ got b m → a ≡ b
 unfolding judged
 judged-value zero place e h = cc
 judged-value (suc n) place e h = cc

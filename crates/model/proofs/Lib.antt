@@ -33,6 +33,7 @@ pub mod OrderFlags
 pub mod Normalized
 pub mod Flattened
 pub mod LeafCount
+pub mod FilterKeeps
 -- merging
 pub mod MergeKeeps
 pub mod Size

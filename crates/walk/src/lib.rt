@@ -295,7 +295,7 @@ pub fn put_part(w: &mut [u8], pos: usize, s: &[u8], from: usize, to: usize) -> u
 }
 
 // Whether a type of this code holds fields of the column's own values.
-fn holds_fields(code: usize) -> bool
+pub fn holds_fields(code: usize) -> bool
     ensures { λ r. ⌜ r ≡ holdsFields code ⌝ }
 {
     if code < LIST {

@@ -70,14 +70,8 @@ impl Operation {
     /// Whether this build links the call.
     pub(crate) const fn linked(self) -> bool {
         match self {
-            Self::IsNested | Self::Equal | Self::IndexOf | Self::TryNew | Self::TryFromFields => {
-                cfg!(feature = "linked")
-            }
-            Self::FlattenedFields => cfg!(feature = "flattening"),
-            Self::EqualsDatatype | Self::Contains => cfg!(feature = "comparing"),
-            Self::Project | Self::ProjectStrict => cfg!(feature = "projecting"),
-            Self::Normalize => cfg!(feature = "normalizing"),
-            Self::Merge | Self::Filter => cfg!(feature = "writing"),
+            Self::Merge => cfg!(feature = "merging"),
+            _ => cfg!(feature = "linked"),
         }
     }
 

@@ -49,30 +49,17 @@ impl Side for Library {
             Operation::IndexOf => sheets::index_of(first, second, work, answer),
             Operation::TryNew => sheets::try_new(first, number, answer),
             Operation::TryFromFields => sheets::try_from_fields(number, answer),
-            #[cfg(feature = "flattening")]
             Operation::FlattenedFields => sheets::flattened_fields(first, work, answer),
-            #[cfg(feature = "comparing")]
             Operation::EqualsDatatype => sheets::equals_datatype(first, second, work, answer),
-            #[cfg(feature = "comparing")]
             Operation::Contains => sheets::contains(first, second, work, answer),
-            #[cfg(feature = "writing")]
+            #[cfg(feature = "merging")]
             Operation::Merge => sheets::merge(first, work, answer),
-            #[cfg(feature = "projecting")]
             Operation::Project => sheets::project(first, second, work, answer),
-            #[cfg(feature = "projecting")]
             Operation::ProjectStrict => sheets::project_strict(first, second, work, answer),
-            #[cfg(feature = "writing")]
             Operation::Filter => sheets::filter(first, second, work, answer),
-            #[cfg(feature = "normalizing")]
             Operation::Normalize => sheets::normalize(first, second, number, work, answer),
-            #[cfg(not(all(
-                feature = "flattening",
-                feature = "comparing",
-                feature = "projecting",
-                feature = "normalizing",
-                feature = "writing"
-            )))]
-            _ => panic!("{} is not linked", request.operation.name()),
+            #[cfg(not(feature = "merging"))]
+            Operation::Merge => panic!("{} is not linked", request.operation.name()),
         };
         Exit {
             number: exit.number,

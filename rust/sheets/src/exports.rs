@@ -6,7 +6,7 @@
 //! no pointer. So a call is sound where every pointer is that of a live slice of its length
 //! and no buffer overlaps anything else, which `&[u8]` and `&mut [u8]` say.
 //!
-//! Each block is the group of a feature, since the library gets its exports group by group.
+//! The merge has a block of its own, since the library has not its export yet.
 
 unsafe extern "C" {
     pub(crate) fn sheets_is_nested(
@@ -63,10 +63,7 @@ unsafe extern "C" {
         place: *mut usize,
         length: *mut usize,
     ) -> u8;
-}
 
-#[cfg(feature = "flattening")]
-unsafe extern "C" {
     pub(crate) fn sheets_flattened_fields(
         sheet: *const u8,
         sheet_length: usize,
@@ -77,10 +74,20 @@ unsafe extern "C" {
         place: *mut usize,
         length: *mut usize,
     ) -> u8;
-}
 
-#[cfg(feature = "comparing")]
-unsafe extern "C" {
+    pub(crate) fn sheets_filter(
+        sheet: *const u8,
+        sheet_length: usize,
+        mask: *const u8,
+        mask_length: usize,
+        work: *mut u8,
+        work_length: usize,
+        answer: *mut u8,
+        answer_length: usize,
+        place: *mut usize,
+        length: *mut usize,
+    ) -> u8;
+
     pub(crate) fn sheets_equals_datatype(
         sheet: *const u8,
         sheet_length: usize,
@@ -106,10 +113,7 @@ unsafe extern "C" {
         place: *mut usize,
         length: *mut usize,
     ) -> u8;
-}
 
-#[cfg(feature = "projecting")]
-unsafe extern "C" {
     pub(crate) fn sheets_project(
         sheet: *const u8,
         sheet_length: usize,
@@ -135,10 +139,7 @@ unsafe extern "C" {
         place: *mut usize,
         length: *mut usize,
     ) -> u8;
-}
 
-#[cfg(feature = "normalizing")]
-unsafe extern "C" {
     pub(crate) fn sheets_normalize(
         sheet: *const u8,
         sheet_length: usize,
@@ -154,24 +155,11 @@ unsafe extern "C" {
     ) -> u8;
 }
 
-#[cfg(feature = "writing")]
+#[cfg(feature = "merging")]
 unsafe extern "C" {
     pub(crate) fn sheets_merge(
         train: *const u8,
         train_length: usize,
-        work: *mut u8,
-        work_length: usize,
-        answer: *mut u8,
-        answer_length: usize,
-        place: *mut usize,
-        length: *mut usize,
-    ) -> u8;
-
-    pub(crate) fn sheets_filter(
-        sheet: *const u8,
-        sheet_length: usize,
-        mask: *const u8,
-        mask_length: usize,
         work: *mut u8,
         work_length: usize,
         answer: *mut u8,

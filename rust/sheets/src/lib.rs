@@ -21,37 +21,40 @@
 //! ```
 //!
 //! The feature `linked` links target/staticlib/libexports.a of the repository, which
-//! `rt staticlib exports` makes; without it only [`Exit`] is here. It gives the first group of
-//! calls; the others have a feature each, since the library gets its exports group by group.
-//! Cargo.toml says which group has which.
+//! `rt staticlib exports` makes; without it only [`Exit`] is here. The merge has
+//! a feature of its own, `merging`, until the library has its export.
 
 #[cfg(feature = "linked")]
 mod calls;
-#[cfg(feature = "comparing")]
+#[cfg(feature = "linked")]
 mod comparing;
 #[cfg(feature = "linked")]
 mod exports;
-#[cfg(feature = "flattening")]
+#[cfg(feature = "linked")]
+mod filtering;
+#[cfg(feature = "linked")]
 mod flattening;
-#[cfg(feature = "normalizing")]
+#[cfg(feature = "merging")]
+mod merging;
+#[cfg(feature = "linked")]
 mod normalizing;
-#[cfg(feature = "projecting")]
+#[cfg(feature = "linked")]
 mod projecting;
-#[cfg(feature = "writing")]
-mod writing;
 
 #[cfg(feature = "linked")]
 pub use calls::{equal, index_of, is_nested, try_from_fields, try_new};
-#[cfg(feature = "comparing")]
+#[cfg(feature = "linked")]
 pub use comparing::{contains, equals_datatype};
-#[cfg(feature = "flattening")]
+#[cfg(feature = "linked")]
+pub use filtering::filter;
+#[cfg(feature = "linked")]
 pub use flattening::flattened_fields;
-#[cfg(feature = "normalizing")]
+#[cfg(feature = "merging")]
+pub use merging::merge;
+#[cfg(feature = "linked")]
 pub use normalizing::normalize;
-#[cfg(feature = "projecting")]
+#[cfg(feature = "linked")]
 pub use projecting::{project, project_strict};
-#[cfg(feature = "writing")]
-pub use writing::{filter, merge};
 
 /// What a call gives beside its buffers.
 #[derive(Clone, Copy, Debug, PartialEq, Eq)]

@@ -71,7 +71,6 @@ fn index_of() {
     assert_eq!(find(b"v", 1), (exit(31, 0, 0), vec![170]));
 }
 
-#[cfg(feature = "flattening")]
 #[test]
 fn flattened_fields() {
     let sheet = &SHEET[..LENGTH];
@@ -79,6 +78,19 @@ fn flattened_fields() {
         sheets::flattened_fields(sheet, work, answer)
     });
     assert_eq!(got, (exit(0, 0, 6), vec![2, 0, 3, 0, 8, 0, 170]));
+}
+
+#[test]
+fn filter() {
+    let sheet = &SHEET[..LENGTH];
+    let got = with(48, 8, |work, answer| {
+        sheets::filter(sheet, &[1], work, answer)
+    });
+    assert_eq!(got, (exit(0, 0, 8), PLAIN.to_vec()));
+    let got = with(48, 8, |work, answer| {
+        sheets::filter(sheet, &[1, 1], work, answer)
+    });
+    assert_eq!(got, (exit(12, 0, 0), vec![170; 8]));
 }
 
 type Call = fn(&[u8], &[u8], &mut [u8], &mut [u8]) -> Exit;
@@ -97,7 +109,6 @@ fn equality() {
     );
 }
 
-#[cfg(feature = "comparing")]
 #[test]
 fn verdicts() {
     let yes = (exit(0, 0, 1), vec![1]);
@@ -126,7 +137,6 @@ fn numberings() {
     assert_eq!(from(4), (exit(31, 0, 0), vec![170; 3]));
 }
 
-#[cfg(feature = "projecting")]
 #[test]
 fn projections() {
     let twice = [2, 2, 0, 4, 1, 0, b'v', 4, 4, 1, 0, b'v', 4];
@@ -141,7 +151,6 @@ fn projections() {
     assert_eq!(got, (exit(11, 1, 0), vec![170; 13]));
 }
 
-#[cfg(feature = "normalizing")]
 #[test]
 fn normalize() {
     // s:Struct{a:Struct{b:Int8}}
@@ -162,30 +171,13 @@ fn normalize() {
     assert_eq!(got, (exit(0, 0, 17), once.to_vec()));
 }
 
-#[cfg(feature = "writing")]
-mod writing {
-    use super::*;
-
-    #[test]
-    fn merge() {
-        let p3 = [2, 1, 0, 4, 1, 0, b'v', 0, 2, 1, 0, 4, 1, 0, b'v', 4];
-        let got = with(64, 9, |work, answer| sheets::merge(&p3, work, answer));
-        assert_eq!(got, (exit(0, 0, 8), [&OTHER[..], &[170]].concat()));
-        let p5 = [2, 1, 0, 4, 1, 0, b'v', 0, 2, 1, 0, 6, 1, 0, b'v', 34, 2, 24];
-        let got = with(72, 1, |work, answer| sheets::merge(&p5, work, answer));
-        assert_eq!(got, (exit(20, 1, 0), vec![170]));
-    }
-
-    #[test]
-    fn filter() {
-        let sheet = &SHEET[..LENGTH];
-        let got = with(48, 8, |work, answer| {
-            sheets::filter(sheet, &[1], work, answer)
-        });
-        assert_eq!(got, (exit(0, 0, 8), PLAIN.to_vec()));
-        let got = with(48, 8, |work, answer| {
-            sheets::filter(sheet, &[1, 1], work, answer)
-        });
-        assert_eq!(got, (exit(12, 0, 0), vec![170; 8]));
-    }
+#[cfg(feature = "merging")]
+#[test]
+fn merge() {
+    let p3 = [2, 1, 0, 4, 1, 0, b'v', 0, 2, 1, 0, 4, 1, 0, b'v', 4];
+    let got = with(64, 9, |work, answer| sheets::merge(&p3, work, answer));
+    assert_eq!(got, (exit(0, 0, 8), [&OTHER[..], &[170]].concat()));
+    let p5 = [2, 1, 0, 4, 1, 0, b'v', 0, 2, 1, 0, 6, 1, 0, b'v', 34, 2, 24];
+    let got = with(72, 1, |work, answer| sheets::merge(&p5, work, answer));
+    assert_eq!(got, (exit(20, 1, 0), vec![170]));
 }

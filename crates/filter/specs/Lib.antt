@@ -1,0 +1,2 @@
+-- The definitions that the contracts of `filter` cite.
+pub mod Filters
