@@ -19,16 +19,21 @@ fn show(what: &[u8], outcome: Outcome, answer: &[u8]) {
     io::write_all(1, b"\n");
 }
 
+// A digit below 16.
+fn digit(n: u8) -> u8 {
+    if n < 10 {
+        return 48 + n;
+    }
+    87 + n % 16
+}
+
 // The first bytes, two digits each.
 fn hex(answer: &[u8], length: usize) {
-    let digits = b"0123456789abcdef";
     let mut i = 0;
     while i < length {
         if i < answer.len() {
-            let high = (answer[i] / 16) as usize;
-            let low = (answer[i] % 16) as usize;
-            io::write_all(1, &digits[high..high + 1]);
-            io::write_all(1, &digits[low..low + 1]);
+            let pair = [digit(answer[i] / 16), digit(answer[i] % 16)];
+            io::write_all(1, &pair);
         }
         i += 1;
     }
