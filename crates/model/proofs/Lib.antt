@@ -35,6 +35,7 @@ pub mod Flattened
 pub mod LeafCount
 pub mod FilterKeeps
 -- merging
+pub mod SortedMetadata
 pub mod MergeKeeps
 pub mod Size
 pub mod NothingLost

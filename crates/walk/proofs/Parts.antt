@@ -55,7 +55,7 @@ module _ {s : Bytes} {place : ℕ} where
 
 -- The bits of a map
 
-flag-one : (n : ℕ) (b : Bool) → (flag n b ≡ n * flag 1 b) × (flag 1 b ≤ 1)
+pub flag-one : (n : ℕ) (b : Bool) → (flag n b ≡ n * flag 1 b) × (flag 1 b ≤ 1)
 flag-one n true = (omega arith, omega arith)
 flag-one n false = (omega arith, omega arith)
 

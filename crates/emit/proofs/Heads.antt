@@ -1,0 +1,125 @@
+-- The head of an entry: what is copied from the first occurrence, and what is its own.
+use Prim.Native.Nat.{ℕ, zero, suc, _+_, _*_, _/_, _%_, _<_}
+use native.Mathlib.Omega.{arith}
+use mathlib.Core.Path.{_≡_, refl, sym, ap, subst, _∙_}
+use mathlib.Core.List.{[], _∷_, _++_}
+use mathlib.Core.Bool.{Bool, true, false, false≢true}
+use lib.ListN.{getD}
+use lib.Dec.{eqb}
+use borrow.Author.Tests.{eq-eqb, eqb-true}
+use Rattle.model.specs.Bytes.{Bytes, flag}
+use Rattle.model.specs.Tree.{Head, Field}
+use Rattle.model.specs.Sheet.{stands, part, withCount, textBytes, pairBytes, headBytes}
+use Rattle.buffer.specs.Puts.{Puts}
+use Rattle.buffer.proofs.Puts.{puts-same, puts-join}
+use Rattle.walk.specs.Stands.{Stands, Skips}
+use Rattle.walk.proofs.Standing.{first-stands, byte-stands, stands-behind, skip-ahead}
+use Rattle.walk.proofs.Parts.{Ahead, flag-one, name-bit}
+use Rattle.walk.proofs.Descents.{head-stands}
+use Rattle.table.specs.Table.{three, SpellMetadata, rawPairs, pairPlaces, SpellField}
+use Rattle.emit.specs.Emission.{withNullable, PutsHead, PutsRawHead, PutsName, HasPlaces, PutsMetadata}
+use Rattle.emit.proofs.Fronts.{byte-is, place-is, behind-stands}
+use Rattle.emit.proofs.Putting.{PutsPart}
+use Rattle.emit.proofs.Copies.{places-stand}
+
+-- The bits of a map
+
+low-bit : (n : ℕ) → n % 2 ≡ flag 1 (eqb (n % 2) 1)
+low-bit n = go (n % 2) (omega arith)
+  where
+    go : (m : ℕ) → m < 2 → m ≡ flag 1 (eqb m 1)
+    go zero h = refl
+    go (suc zero) h = refl
+    go (suc (suc m)) h = absurd (omega (arith, h))
+
+module _ (a b c d : Bool) where
+  -- all but the lowest
+  upper-bits : (flag 1 a + flag 2 b + flag 4 c + flag 8 d) / 2 % 8 * 2 ≡ flag 2 b + flag 4 c + flag 8 d
+  upper-bits = omega (arith, flag-one 1 a, flag-one 2 b, flag-one 4 c, flag-one 8 d)
+
+  -- the two in the middle
+  middle-bits : (flag 1 a + flag 2 b + flag 4 c + flag 8 d) / 2 % 4 * 2 ≡ flag 2 b + flag 4 c
+  middle-bits = omega (arith, flag-one 1 a, flag-one 2 b, flag-one 4 c, flag-one 8 d)
+
+-- The head that stands at a place of the train
+
+module _ {s : Bytes} {first map name : ℕ} (e : map ≡ getD s first 0) (a : Ahead s first 1 name) where
+  map-is : (h : Head) → Stands s first (headBytes h) → map ≡ flag 1 (h .nullable) + flag 2 (h .dictIsOrdered) + flag 4 (stands (h .name)) + flag 8 (stands (h .metadata))
+  unfolding headBytes
+  map-is h st = e ∙ byte-stands st
+
+  name-stands : (h : Head) → Stands s first (headBytes h) → Stands s name (part textBytes (h .name) ++ part (withCount pairBytes) (h .metadata))
+  unfolding headBytes
+  name-stands h st = stands-behind (skip-ahead (_ ∷ []) refl (a .1)) st
+
+  name-at : (h : Head) → Stands s first (headBytes h) → name ≡ first + 1
+  unfolding headBytes
+  name-at h st = skip-ahead (_ ∷ []) refl (a .1) .behind (first-stands (_ ∷ []) _ st)
+
+  module _ (flags : ℕ) {d d₁ d₂ : Bytes} {p q r end : ℕ} (f : PutsPart s name end d₁ q d₂ r) where
+    pub raw-head-puts : Puts ((flags % 2 + map / 2 % 8 * 2) ∷ []) d p d₁ q → ((h : Head) → Skips s first (headBytes h) end) → PutsRawHead s first flags d p d₂ r
+    unfolding headBytes
+    raw-head-puts one g h st =
+        let rest = part textBytes (h .name) ++ part (withCount pairBytes) (h .metadata) in
+        let bits = upper-bits (h .nullable) (h .dictIsOrdered) (stands (h .name)) (stands (h .metadata)) in
+        let i : flags % 2 + map / 2 % 8 * 2 ≡ flag 1 (eqb (flags % 2) 1) + flag 2 (h .dictIsOrdered) + flag 4 (stands (h .name)) + flag 8 (stands (h .metadata)) =
+        omega (arith, low-bit flags, ap (λ m. m / 2 % 8 * 2) (map-is h st) ∙ bits) in
+        puts-join (_ ∷ []) rest (puts-same (ap (λ n. n ∷ []) i) one) (f rest (name-stands h st) (omega (arith, g h .behind st, name-at h st)))
+
+    pub name-puts : {m : ℕ} (metadata : Bool) → m ≡ flag 8 metadata → Puts ((flags % 2 + map / 2 % 4 * 2 + m) ∷ []) d p d₁ q
+        → ((t : Bytes) → stands t ≡ eqb (map / 4 % 2) 1 → Skips s name (part textBytes t) end) → PutsName s first flags metadata d p d₂ r
+    name-puts {m} metadata k one g h st =
+        let bits = middle-bits (h .nullable) (h .dictIsOrdered) (stands (h .name)) (stands (h .metadata)) in
+        let i : flags % 2 + map / 2 % 4 * 2 + m ≡ flag 1 (eqb (flags % 2) 1) + flag 2 (h .dictIsOrdered) + flag 4 (stands (h .name)) + flag 8 metadata =
+        omega (arith, k, low-bit flags, ap (λ m. m / 2 % 4 * 2) (map-is h st) ∙ bits) in
+        let named = ap (λ m. eqb (m / 4 % 2) 1) (map-is h st) ∙ name-bit (h .nullable) (h .dictIsOrdered) (stands (h .name)) (stands (h .metadata)) in
+        let there = first-stands (part textBytes (h .name)) _ (name-stands h st) in
+        puts-join (_ ∷ []) (part textBytes (h .name)) (puts-same (ap (λ n. n ∷ []) i) one) (f (part textBytes (h .name)) there (g (h .name) (sym named) .behind there))
+
+-- Entries
+
+same-head : (h g : Head) → h .nullable ≡ g .nullable → h .dictIsOrdered ≡ g .dictIsOrdered → h .name ≡ g .name → h .metadata ≡ g .metadata → headBytes h ≡ headBytes g
+unfolding headBytes
+same-head h g e₁ e₂ e₃ e₄ = rw (e₁, e₂, e₃, e₄) refl
+
+module _ {s w : Bytes} {place flags m first : ℕ} (e : flags ≡ getD w place 0) (a : Ahead w place 1 m) (i : first ≡ three w m) where
+  module _ (l : ℕ) {k : ℕ} {y : Bytes} {f : Field l} (p : SpellField l s k y f) (st : Stands w place y) where
+    flags-are : flags ≡ p .flags
+    flags-are = byte-is e (p .bytes) st
+
+    first-is : first ≡ p .first
+    first-is = place-is (p .flags) (p .first) (p .metadataBytes ++ p .typeSpelt) a i (p .small) (p .bytes) st
+
+    own-stands : Stands s first (headBytes (p .own .head))
+    own-stands = subst (λ n. Stands s n (headBytes (p .own .head))) (sym first-is) (head-stands l (p .own) (p .stands))
+
+    nullable-is : eqb (flags % 2) 1 ≡ f .head .nullable
+    nullable-is = ap (λ n. eqb (n % 2) 1) flags-are ∙ p .nullable
+
+  module _ {d : Bytes} {pos : ℕ} {d′ : Bytes} {r : ℕ} where
+    pub head-raw : (flags / 2 ≡ 1 → ⊥) → PutsRawHead s first flags d pos d′ r → PutsHead s w place d pos d′ r
+    head-raw never g l k y f p st = go (p .metadata)
+      where
+        go : SpellMetadata s (p .metadataRoom) (eqb (p .flags / 2) 1) (p .metadataBytes) (p .own .head .metadata) (f .head .metadata) → Puts (headBytes (f .head)) d pos d′ r
+        go (rawPairs o b j n) =
+            puts-same (same-head (withNullable (p .own .head) (eqb (flags % 2) 1)) (f .head) (nullable-is l p st) (p .dictIsOrdered) (p .name) j) (g (p .own .head) (own-stands l p st))
+        go (pairPlaces o n) = absurd (never (ap (λ n. n / 2) (flags-are l p st) ∙ eqb-true (p .flags / 2) 1 o))
+
+  pub head-open : {pairs : ℕ} {b : Bool} {d d₁ d₂ : Bytes} {pos q r : ℕ} → flags / 2 ≡ 1 → Ahead w place 4 pairs → HasPlaces w pairs b → PutsName s first flags b d pos d₁ q
+      → PutsMetadata s w pairs d₁ q d₂ r → PutsHead s w place d pos d₂ r
+  unfolding headBytes
+  head-open {pairs} {b} {d} {d₁} {d₂} {pos} {q} {r} set c has g h l k y f p st = go (p .metadata)
+    where
+      there : Stands w pairs (p .metadataBytes)
+      there = first-stands (p .metadataBytes) (p .typeSpelt) (behind-stands (p .flags) (p .first) (p .metadataBytes ++ p .typeSpelt) c (p .bytes) st)
+
+      go : SpellMetadata s (p .metadataRoom) (eqb (p .flags / 2) 1) (p .metadataBytes) (p .own .head .metadata) (f .head .metadata) → Puts (headBytes (f .head)) d pos d₂ r
+      go (rawPairs o x j n) = absurd (false≢true (sym o ∙ ap (λ n. eqb (n / 2) 1) (sym (flags-are l p st)) ∙ eq-eqb (flags / 2) 1 set))
+      go (pairPlaces o n) =
+          puts-same
+          (same-head (record { typeId = 0; nullable = eqb (flags % 2) 1; dictIsOrdered = p .own .head .dictIsOrdered; name = p .own .head .name; metadata = f .head .metadata }) (f .head) (nullable-is l p st) (p .dictIsOrdered) (p .name) refl)
+          (puts-join (_ ∷ part textBytes (p .own .head .name)) (part (withCount pairBytes) (f .head .metadata))
+          (puts-same
+          (ap (λ z. (flag 1 (eqb (flags % 2) 1) + flag 2 (p .own .head .dictIsOrdered) + flag 4 (stands (p .own .head .name)) + flag 8 z) ∷ part textBytes (p .own .head .name)) (places-stand n there has))
+          (g (p .own .head) (own-stands l p st)))
+          (h (p .metadataRoom) (p .metadataBytes) (f .head .metadata) n there))

@@ -1,0 +1,3 @@
+-- The definitions that the contracts of `emit` cite.
+pub mod Survivor
+pub mod Emission

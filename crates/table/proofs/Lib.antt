@@ -1,0 +1,10 @@
+-- The laws that the proofs of `table`, and of its callers, lean on.
+pub mod Moving
+pub mod Held
+pub mod Numbers
+pub mod Marked
+pub mod Entries
+pub mod Look
+pub mod NewEntries
+pub mod Types
+pub mod Opening
