@@ -14,7 +14,7 @@ use Rattle.walk.proofs.Standing.{second-stands}
 use Rattle.table.specs.Table.{u24, three, noPlace, placesBytes, Refer, noneLeft, onePlace, Places}
 use Rattle.table.proofs.Numbers.{length-u24}
 use Rattle.metadata.specs.Pairs.{NotBelow, Cut, Spot}
-use Rattle.metadata.proofs.Places.{length-places, front-none, front-place, refer-append}
+use Rattle.table.proofs.Places.{length-places, front-none, front-place, refer-append}
 use Rattle.metadata.proofs.Texts.{KeyBelow}
 
 -- one place more before the others

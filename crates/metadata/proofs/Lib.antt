@@ -1,7 +1,6 @@
 -- The laws that the proofs of `metadata`, and of its callers, lean on.
 pub mod Says
 pub mod Texts
-pub mod Places
 pub mod Finding
 pub mod Putting
 pub mod Pouring

@@ -24,9 +24,10 @@ use Rattle.table.specs.declared.Merged.the-variants.{Used, Clash}
 use Rattle.table.proofs.Numbers.{length-u24}
 use Rattle.table.proofs.Held.{held-as, held-length, held-stands}
 use Rattle.metadata.specs.Fields.{withMetadata, mergeFieldMetadata, Opened}
-use Rattle.metadata.specs.Merges.{SaysRow, SaysEntry, InsertsPlace, MergesPairs, Marks, OpensMetadata, MergesMetadata}
+use Rattle.metadata.specs.Merges.{SaysRow, SaysEntry, MergesPairs, Marks, OpensMetadata, MergesMetadata}
+use Rattle.table.specs.Edits.{InsertsPlace}
 use Rattle.metadata.proofs.Says.{says-in}
-use Rattle.metadata.proofs.Places.{places-none}
+use Rattle.table.proofs.Places.{places-none}
 use Rattle.metadata.proofs.Pouring.{merge-none}
 use Rattle.metadata.proofs.Heads.{FindsPairs, part-long, part-counted}
 use Rattle.metadata.proofs.Fits.{type-fits, field-fits}

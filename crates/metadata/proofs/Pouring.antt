@@ -23,7 +23,7 @@ use Rattle.table.proofs.Held.{held-as, held-stands}
 use Rattle.metadata.specs.Pairs.{Cut}
 use Rattle.metadata.specs.Merges.{SaysRow, PutsPair, MergesPairs}
 use Rattle.metadata.proofs.Texts.{SkipsText, pair-long}
-use Rattle.metadata.proofs.Places.{length-each-place, length-places, refer-append, places-fit, places-join}
+use Rattle.table.proofs.Places.{length-each-place, length-places, refer-append, places-fit, places-join}
 use Rattle.metadata.proofs.Finding.{FindsKey}
 
 -- Between x and z stands what was merged so far: pairs that are below all that are left, then from `from` on the others. What is left, merged

@@ -13,9 +13,10 @@ use Rattle.table.specs.Table.{u24, three, noPlace, placesBytes, Refer, noneLeft
 use Rattle.table.specs.declared.Merged.the-variants.{Used, Clash}
 use Rattle.table.proofs.Held.{held-as, held-length, held-stands}
 use Rattle.metadata.specs.Pairs.{NotBelow}
-use Rattle.metadata.specs.Merges.{InsertsPlace, PutsPair}
+use Rattle.metadata.specs.Merges.{PutsPair}
+use Rattle.table.specs.Edits.{InsertsPlace}
 use Rattle.metadata.proofs.Texts.{KeyBelow, SameValue, pair-long}
-use Rattle.metadata.proofs.Places.{front-none, front-place, places-fit, places-front}
+use Rattle.table.proofs.Places.{front-none, front-place, places-fit, places-front}
 
 -- what the merge of a pair gives, into a row of pairs that begins where its key belongs
 abbrev Front : Bytes → Bytes → ℕ → ℕ → ℕ → (Metadata → Bytes × Bytes → Merged Metadata) → Type 0

@@ -27,11 +27,6 @@ SaysRow s b x z w′ r m = Says (λ i v n. Places s pairBytes i v n) b x z w′ 
 abbrev pub SaysEntry : (l : ℕ) → Bytes → ℕ → Bytes → Bytes → Bytes → Merged → model.Merged (Field l) → Type 0
 SaysEntry l s b x z w′ r m = Says (λ i v g. SpellField l s i v g) b x z w′ r m
 
--- a place is put in
-pub record InsertsPlace (w : Bytes) (used row place : ℕ) (w′ : Bytes) (r : ℕ) : Type 0 where
-  pub sameLength : length w′ ≡ length w
-  pub inserts : (x z : Bytes) → Held w used x [] z → row ≡ length x → used + 3 ≤ length w → (r ≡ used + 3) × Held w′ r x (u24 place) z
-
 -- a pair goes into a row of pairs that begins where its key belongs
 pub record PutsPair (s w : Bytes) (used row q number : ℕ) (w′ : Bytes) (r : Merged) : Type 0 where
   pub sameLength : length w′ ≡ length w

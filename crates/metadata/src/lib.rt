@@ -16,7 +16,7 @@ ghost use Rattle.model.specs.Sheet.{part, textBytes, pairBytes, headBytes};
 ghost use Rattle.walk.specs.Stands.{Stands};
 ghost use Rattle.table.specs.Table.{Places, SpellField};
 ghost use Rattle.metadata.specs.Pairs.{Spot};
-ghost use Rattle.metadata.specs.Merges.{InsertsPlace, PutsPair, MergesPairs, Marks, OpensMetadata, MergesMetadata};
+ghost use Rattle.metadata.specs.Merges.{PutsPair, MergesPairs, Marks, OpensMetadata, MergesMetadata};
 
 // Whether the bytes from one place to another are below those between two other places.
 fn below_stretch(s: &[u8], a: usize, e: usize, b: usize, f: usize) -> bool
@@ -71,28 +71,16 @@ fn find_key(s: &[u8], w: &[u8], row: usize, q: usize) -> usize
     place
 }
 
-// Puts a place of the train in. Gives how many bytes are in use then.
-pub fn insert_place(w: &mut [u8], used: usize, at: usize, place: usize) -> usize
-    ensures { λ r. ⌜ InsertsPlace (now (w .entry)) used at place (now (w .exit)) r ⌝ }
-{
-    let bytes = [
-        (place % 256) as u8,
-        (place / 256 % 256) as u8,
-        (place / 65536 % 256) as u8,
-    ];
-    table::insert(w, used, at, &bytes)
-}
-
 // A pair of the train into the row of pairs that begins where its key belongs: before the first, or its key is that of the first.
 fn put_pair(s: &[u8], w: &mut [u8], used: usize, at: usize, q: usize, number: u8) -> Merged
     ensures { λ r. ⌜ PutsPair (now (s .entry)) (now (w .entry)) used at q number (now (w .exit)) r ⌝ }
 {
     let there = table::three(w, at);
     if there == table::NO_PLACE {
-        return Merged::Used(insert_place(w, used, at, q));
+        return Merged::Used(table::insert_place(w, used, at, q));
     }
     if key_below(s, q, there) {
-        return Merged::Used(insert_place(w, used, at, q));
+        return Merged::Used(table::insert_place(w, used, at, q));
     }
     if same_value(s, there, q) {
         return Merged::Used(used);
@@ -170,7 +158,7 @@ fn mark_opened(w: &mut [u8], used: usize, at: usize, flags: usize) -> usize
 {
     let marked = [(flags % 2 + 2) as u8];
     table::overwrite(w, used, at, &marked);
-    insert_place(w, used, walk::ahead(w, at, 4), table::NO_PLACE)
+    table::insert_place(w, used, walk::ahead(w, at, 4), table::NO_PLACE)
 }
 
 // The number of the clash of two fields' metadata.

@@ -8,3 +8,6 @@ pub mod Look
 pub mod NewEntries
 pub mod Types
 pub mod Opening
+pub mod Places
+pub mod Sought
+pub mod Pouring

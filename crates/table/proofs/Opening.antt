@@ -6,21 +6,21 @@ use mathlib.Core.List.{List, [], _∷_, _++_, append-assoc, append-nil}
 use mathlib.Core.Bool.{Bool}
 use mathlib.Core.Logic.{_⊎_, inl, inr}
 use lib.ListN.{length, getD, length-append}
-use Rattle.model.specs.Bytes.{Bytes, Every}
-use Rattle.model.specs.Tree.{FieldOver, DataType, Field, Children, layout, oneField, table, List′, LargeList, Struct, Union}
+use Rattle.model.specs.Bytes.{Bytes}
+use Rattle.model.specs.Tree.{DataType, Field, layout, oneField, table, List′, LargeList, Struct, Union}
 use Rattle.model.specs.Tree.Children.{fields}
 use Rattle.model.specs.Sheet.{each, headBytes, fieldBytes, childrenBytes, typeBytes}
 use Rattle.model.specs.WellFormed.{WellFormedParams, WellFormedField, WellFormedChildren, WellFormedType}
-use Rattle.walk.specs.Stands.{Stands, Skips}
-use Rattle.walk.proofs.Standing.{byte-stands, first-stands, stands-behind, skip-ahead}
+use Rattle.walk.specs.Stands.{Stands}
+use Rattle.walk.proofs.Standing.{byte-stands, stands-behind, skip-ahead}
 use Rattle.walk.proofs.Parts.{Ahead}
 use Rattle.walk.proofs.Descents.{code-stands}
 use Rattle.table.specs.Held.{Held}
-use Rattle.table.specs.Table.{noPlace, noEntry, raw, openStruct, openList, openUnion, u24, three, SpellField, SpellType, spellRaw, spellStruct, spellList, spellUnion}
+use Rattle.table.specs.Table.{noEntry, raw, openStruct, openList, u24, three, spellRaw, spellStruct, spellList, spellUnion}
 use Rattle.table.proofs.Numbers.{length-u24}
 use Rattle.table.proofs.Held.{held-length, held-stands, held-as}
 use Rattle.table.specs.Becomes.{Incoming}
-use Rattle.table.specs.Opened.{NewEntry, OpenList, OpenedList, OpensList}
+use Rattle.table.specs.Opened.{NewEntry, OpensList}
 use Rattle.table.proofs.Types.{raw-there}
 
 pub byte-set : {w′ x z : Bytes} {used b n : ℕ} → b ≡ n % 256 → n < 256 → Held w′ used x (b ∷ []) z → Held w′ used x (n ∷ []) z
@@ -36,19 +36,20 @@ Inserts w used place v w′ r = (x z : Bytes) → Held w used x [] z → place �
 
 module _ {w : Bytes} (w₁ : Bytes) {used place : ℕ} (s : length w₁ ≡ length w) where
   -- the kind of a raw type is set, and the table is seen from behind its place
-  kind-set : (n p : ℕ) {x z : Bytes} → SetsByte w used place n w₁ → n < 256 → place ≡ length x → Held w used x (raw ∷ u24 p) z → Held w₁ used (x ++ (n ∷ u24 p)) [] z
+  pub kind-set : (n p : ℕ) {x z : Bytes} → SetsByte w used place n w₁ → n < 256 → place ≡ length x → Held w used x (raw ∷ u24 p) z → Held w₁ used (x ++ (n ∷ u24 p)) [] z
   kind-set n p {x} {z} f h e k =
       held-as (f x (u24 p ++ z) raw (held-as k refl) e h) (sym (append-assoc x (n ∷ u24 p) z))
 
-  inner-is : (n p : ℕ) {x z : Bytes} {inner : ℕ} → place ≡ length x → Held w used x (raw ∷ u24 p) z → Ahead w₁ place 4 inner → inner ≡ length (x ++ (n ∷ u24 p))
-  inner-is n p {x} {z} e k a =
+  -- what is merged inside a type stands behind its kind and its place
+  pub inner-is : (n p : ℕ) {x y z : Bytes} {inner : ℕ} → place ≡ length x → Held w used x y z → 4 ≤ length y → Ahead w₁ place 4 inner → inner ≡ length (x ++ (n ∷ u24 p))
+  inner-is n p {x} {z} e k long a =
       let l = held-length k in
-      omega (arith, a .1 (omega (arith, l, length-u24 p, k .fits, s, e)), e, length-append x (n ∷ u24 p), length-u24 p)
+      omega (arith, a .1 (omega (arith, l, long, k .fits, s, e)), e, length-append x (n ∷ u24 p), length-u24 p)
 
   pub struct-opened : {w₂ x z : Bytes} {inner r : ℕ} (p : ℕ) → SetsByte w used place openStruct w₁ → Ahead w₁ place 4 inner → Inserts w₁ used inner (noEntry ∷ []) w₂ r
       → Held w used x (raw ∷ u24 p) z → place ≡ length x → used + 1 ≤ length w → Held w₂ r x (openStruct ∷ (u24 p ++ (noEntry ∷ []))) z
   struct-opened {x = x} {z = z} p f a i k e room =
-      held-as (i (x ++ (openStruct ∷ u24 p)) z (kind-set openStruct p f (omega arith) e k) (inner-is openStruct p e k a) (omega (arith, room, s)) .1)
+      held-as (i (x ++ (openStruct ∷ u24 p)) z (kind-set openStruct p f (omega arith) e k) (inner-is openStruct p e k (omega (arith, length-u24 p)) a) (omega (arith, room, s)) .1)
       (append-assoc x (openStruct ∷ u24 p) (noEntry ∷ z) ∙ ap (λ v. x ++ (openStruct ∷ v)) (sym (append-assoc (u24 p) (noEntry ∷ []) z)))
 
 -- Lists
@@ -150,7 +151,7 @@ module _ {s w : Bytes} {used place n : ℕ} (e : n ≡ getD w place 0) where
       let bytes-long : length (typeBytes (suc l) t) ≡ 1 + length (fieldBytes (typeBytes l) (q .child)) = omega (arith, ap length (q .bytes)) in
       let hl = held-length h in
       let ne = i l (q .child) (x ++ (openList ∷ u24 j)) z (record { small = small; stands = st3; wellFormed = q .wellFormed; typeId = q .typeId })
-      (kind-set w₁ size openList j g (omega arith) p h) (inner-is w refl openList j p h f)
+      (kind-set w₁ size openList j g (omega arith) p h) (inner-is w refl openList j p h (omega (arith, length-u24 j)) f)
       (omega (arith, room, hl, size, length-u24 j, ra .room, bytes-long, long)) in
       record {
         child = q .child;

@@ -5,3 +5,5 @@ pub mod Look
 pub mod Says
 pub mod Becomes
 pub mod Opened
+pub mod Edits
+pub mod Pours

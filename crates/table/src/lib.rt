@@ -18,6 +18,7 @@ ghost use Rattle.table.specs.Table.{three, u24, noPlace, noEntry, raw, o
 ghost use Rattle.table.specs.Look.{Cut, Finds};
 ghost use Rattle.table.specs.Becomes.{Incoming};
 ghost use Rattle.table.specs.Opened.{NewEntry, OpensList};
+ghost use Rattle.table.specs.Edits.{InsertsPlace};
 
 // What a merge into the table ends with: so many bytes are in use then, or the number of the clash. The definition `Says` gives for each what
 // it says of the model's merge.
@@ -300,4 +301,16 @@ pub fn open_list(s: &[u8], w: &mut [u8], used: usize, at: usize) -> usize
     let inner = walk::ahead(&w[..], at, 4);
     set_byte(w, used, at, 2);
     insert_entry(s, w, used, inner, child)
+}
+
+// Puts a place of the train in. Gives how many bytes are in use then.
+pub fn insert_place(w: &mut [u8], used: usize, at: usize, place: usize) -> usize
+    ensures { λ r. ⌜ InsertsPlace (now (w .entry)) used at place (now (w .exit)) r ⌝ }
+{
+    let bytes = [
+        (place % 256) as u8,
+        (place / 256 % 256) as u8,
+        (place / 65536 % 256) as u8,
+    ];
+    insert(w, used, at, &bytes)
 }

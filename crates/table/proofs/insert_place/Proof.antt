@@ -1,8 +1,8 @@
 -- `insert_place`: the three bytes of a place.
 use borrow.Author.Needs.{needs}
 use Rattle.table.specs.Table.{u24}
-use Rattle.metadata.proofs.insert_place.Statement.{statement}
-use Rattle.metadata.proofs.insert_place.Tie as tie
+use Rattle.table.proofs.insert_place.Statement.{statement}
+use Rattle.table.proofs.insert_place.Tie as tie
 
 returns : tie.Need-returns
 unfolding u24

@@ -33,6 +33,10 @@ module _ {w : Bytes} {place : ℕ} where
   front-place p ps h st = three-stands p (placesBytes ps) (omega (arith, h)) (front-split p ps st)
 
 module _ {A : Type 0} {s : Bytes} {write : A → Bytes} where
+  pub refer-length : {ps : List ℕ} {xs : List A} → Refer s write ps xs → length xs ≡ length ps
+  refer-length noneLeft = refl
+  refer-length (onePlace h st r) = omega (arith, refer-length r)
+
   pub refer-append : {ps qs : List ℕ} {xs ys : List A} → Refer s write ps xs → Refer s write qs ys → Refer s write (ps ++ qs) (xs ++ ys)
   refer-append noneLeft r = r
   refer-append (onePlace h st q) r = onePlace h st (refer-append q r)
