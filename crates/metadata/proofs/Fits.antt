@@ -12,14 +12,14 @@ use Rattle.table.specs.Table.{u24, noEntry, Rows, none, more, SpellMetadata, ra
 use Rattle.table.proofs.Numbers.{length-u24}
 use Rattle.table.proofs.Places.{places-fit}
 
-rows-fit : {A : Type 0} {P : ℕ → Bytes → A → Type 0} → ((k : ℕ) (y : Bytes) (x : A) → P k y x → length y ≤ k) → {k : ℕ} {y : Bytes} {xs : List A} → Rows P k y xs → length y ≤ k
+pub rows-fit : {A : Type 0} {P : ℕ → Bytes → A → Type 0} → ((k : ℕ) (y : Bytes) (x : A) → P k y x → length y ≤ k) → {k : ℕ} {y : Bytes} {xs : List A} → Rows P k y xs → length y ≤ k
 rows-fit f none = omega arith
 rows-fit f (more {k = k} {y = y} {ys = ys} {x = x} p r) = omega (arith, length-append y ys, f k y x p, rows-fit f r)
 
-row-fits : {T : Type 0} {P : ℕ → Bytes → FieldOver T → Type 0} → ((k : ℕ) (y : Bytes) (f : FieldOver T) → P k y f → length y ≤ k) → {k : ℕ} {y : Bytes} {fs : List (FieldOver T)} → SpellRowOver P k y fs → length y ≤ k
+pub row-fits : {T : Type 0} {P : ℕ → Bytes → FieldOver T → Type 0} → ((k : ℕ) (y : Bytes) (f : FieldOver T) → P k y f → length y ≤ k) → {k : ℕ} {y : Bytes} {fs : List (FieldOver T)} → SpellRowOver P k y fs → length y ≤ k
 row-fits f r = omega (arith, r .room, rows-fit f (r .row), ap length (r .bytes), length-append (r .rowBytes) (noEntry ∷ []))
 
-metadata-fits : {s : Bytes} {k : ℕ} {b : Bool} {y : Bytes} {own m : Metadata} → SpellMetadata s k b y own m → length y ≤ k
+pub metadata-fits : {s : Bytes} {k : ℕ} {b : Bool} {y : Bytes} {own m : Metadata} → SpellMetadata s k b y own m → length y ≤ k
 metadata-fits (rawPairs o e i h) = omega (arith, ap length e)
 metadata-fits (pairPlaces o p) = places-fit p
 

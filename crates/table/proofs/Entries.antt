@@ -1,17 +1,17 @@
 -- Entries and their parts: the places behind them.
-use Prim.Native.Nat.{ℕ, zero, suc, _+_, _*_, _-_, _/_, _≤_, _<_}
+use Prim.Native.Nat.{ℕ, zero, suc, _+_, _-_, _/_, _≤_, _<_}
 use native.Mathlib.Omega.{arith}
 use mathlib.Core.Path.{_≡_, refl, sym, ap, subst, _∙_}
 use mathlib.Core.List.{List, [], _∷_, _++_, append-assoc, append-nil}
 use mathlib.Core.Bool.{Bool, false≢true}
-use lib.ListN.{length, getD, length-append}
+use lib.ListN.{length, getD}
 use lib.Dec.{eqb}
 use borrow.Author.Tests.{eq-eqb, eqb-true}
 use Rattle.model.specs.Bytes.{Bytes, Metadata, Every}
 use Rattle.model.specs.Tree.{FieldOver, DataType, Field}
 use Rattle.model.specs.Sheet.{each}
 use Rattle.walk.specs.Stands.{Stands, Skips}
-use Rattle.walk.proofs.Standing.{first-stands, byte-stands, stands-behind, skip-ahead, skip-join, skip-when}
+use Rattle.walk.proofs.Standing.{first-stands, byte-stands, skip-ahead, skip-join, skip-when}
 use Rattle.walk.proofs.Parts.{Ahead}
 use Rattle.table.specs.Table.{u24, three, noPlace, noEntry, raw, openStruct, openList, openUnion, placesBytes, Rows, none, more, Refer, noneLeft, onePlace, SpellMetadata, rawPairs, pairPlaces, SpellFieldOver, spellRaw, spellStruct, spellList, spellUnion, SpellType, SpellField, SpellRow}
 use Rattle.table.proofs.Numbers.{length-u24, three-stands}

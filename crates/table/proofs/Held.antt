@@ -1,14 +1,12 @@
 -- What is in use of the work buffer, read and edited: a stretch between what stands before and behind it.
-use mathlib.Core.Path.{_≡_, refl, sym, ap, subst, _∙_}
-use mathlib.Core.List.{[], _∷_, _++_, append-assoc}
+use mathlib.Core.Path.{_≡_, sym, ap, _∙_}
+use mathlib.Core.List.{[], _++_, append-assoc}
 use Prim.Native.Nat.{ℕ, _+_, _-_, _≤_}
-use native.Mathlib.Nat.{add-zero}
 use native.Mathlib.Omega.{arith}
 use lib.ListN.{length, take, drop, length-append, take-append-drop}
 use lib.Seq.{take-at, drop-at, length-take-le, take-append-le, take-take}
 use Rattle.model.specs.Bytes.{Bytes}
 use Rattle.buffer.specs.Buffer.{pasted}
-use Rattle.buffer.proofs.Pasted.{length-pasted, pasted-join}
 use Rattle.walk.specs.Stands.{Stands}
 use Rattle.walk.proofs.Standing.{rest-stands}
 use Rattle.table.specs.Held.{Held}

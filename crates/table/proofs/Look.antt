@@ -1,5 +1,5 @@
 -- Looking up a name: one entry, the turns of the scan, and what was found.
-use Prim.Native.Nat.{ℕ, _+_, _≤_, _<_}
+use Prim.Native.Nat.{ℕ, _+_, _≤_}
 use native.Mathlib.Omega.{arith}
 use mathlib.Core.Path.{_≡_, refl, sym, ap, subst, _∙_}
 use mathlib.Core.List.{List, [], _∷_, _++_, append-assoc, append-nil}
@@ -13,8 +13,8 @@ use Rattle.walk.specs.Stands.{Stands, Skips}
 use Rattle.walk.proofs.Standing.{first-stands, second-stands, byte-stands, stands-behind, skip-ahead}
 use Rattle.walk.proofs.Parts.{Ahead}
 use Rattle.walk.proofs.Descents.{head-stands}
-use Rattle.table.specs.Table.{u24, three, noEntry, Rows, none, more, SpellField, SpellRow}
-use Rattle.table.specs.Look.{Cut, FoundAt, NotFound, Finds}
+use Rattle.table.specs.Table.{three, noEntry, Rows, none, more, SpellField, SpellRow}
+use Rattle.table.specs.Look.{Cut, FoundAt, Finds}
 use Rattle.table.specs.declared.Found.{Found}
 use Rattle.table.proofs.Numbers.{three-stands}
 use Rattle.table.proofs.Entries.{SkipsEntries}

@@ -1,6 +1,6 @@
 -- The loop that moves bytes on, from the last one on: one turn of it.
 use mathlib.Core.Path.{_≡_, refl, ap, _∙_}
-use mathlib.Core.List.{_∷_, _++_, append-assoc}
+use mathlib.Core.List.{_∷_, append-assoc}
 use Prim.Native.Nat.{ℕ, _+_, _-_, _≤_, _<_}
 use native.Mathlib.Nat.{suc-add, add-suc}
 use native.Mathlib.Numerals.{add-one}

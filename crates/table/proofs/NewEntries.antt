@@ -1,22 +1,21 @@
 -- The entry of a field that nothing was merged into yet.
-use Prim.Native.Nat.{ℕ, zero, suc, _+_, _*_, _/_, _%_, _≤_, _<_}
+use Prim.Native.Nat.{ℕ, zero, suc, _+_, _*_, _/_, _%_, _<_}
 use native.Mathlib.Omega.{arith}
-use mathlib.Core.Path.{_≡_, refl, sym, ap, subst, _∙_}
+use mathlib.Core.Path.{_≡_, refl, ap, subst, _∙_}
 use mathlib.Core.List.{[], _∷_, _++_}
 use mathlib.Core.Bool.{Bool, true, false}
 use lib.ListN.{length, getD, length-append}
 use lib.Dec.{eqb}
 use borrow.Author.Tests.{ne-eqb}
 use Rattle.model.specs.Bytes.{Bytes, flag}
-use Rattle.model.specs.Tree.{Head, Field, FieldOver, DataType}
+use Rattle.model.specs.Tree.{Head, Field}
 use Rattle.model.specs.Sheet.{stands, part, withCount, pairBytes, textBytes, headBytes, fieldBytes, typeBytes}
-use Rattle.model.specs.WellFormed.{WellFormedField, WellFormedType}
 use Rattle.walk.specs.Stands.{Stands, Skips}
-use Rattle.walk.proofs.Standing.{byte-stands, first-stands}
+use Rattle.walk.proofs.Standing.{byte-stands}
 use Rattle.walk.proofs.Parts as walk
 use Rattle.walk.proofs.Descents.{head-stands, type-stands}
 use Rattle.table.specs.Held.{Held}
-use Rattle.table.specs.Table.{noPlace, raw, u24, SpellField, SpellType, spellRaw, rawPairs}
+use Rattle.table.specs.Table.{raw, u24, SpellField, SpellType, spellRaw, rawPairs}
 use Rattle.table.specs.Becomes.{Incoming}
 use Rattle.table.specs.Opened.{NewEntry}
 

@@ -60,15 +60,15 @@ list-params c (inl e) = ap layout e
 list-params c (inr e) = ap layout e
 
 -- the child of a well-formed list
-record OnlyChild (l : ℕ) (a : DataType (suc l)) : Type 0 where
-  child : Field l
-  children : a .children ≡ child ∷ []
-  params : a .params ≡ []
-  wellFormed : WellFormedField (WellFormedType l) child
-  typeId : child .head .typeId ≡ 0
-  bytes : typeBytes (suc l) a ≡ a .code ∷ fieldBytes (typeBytes l) child
+pub record OnlyChild (l : ℕ) (a : DataType (suc l)) : Type 0 where
+  pub child : Field l
+  pub children : a .children ≡ child ∷ []
+  pub params : a .params ≡ []
+  pub wellFormed : WellFormedField (WellFormedType l) child
+  pub typeId : child .head .typeId ≡ 0
+  pub bytes : typeBytes (suc l) a ≡ a .code ∷ fieldBytes (typeBytes l) child
 
-only-child : (l : ℕ) (o : Bool) (a : DataType (suc l)) → (a .code ≡ List′) ⊎ (a .code ≡ LargeList) → WellFormedType (suc l) o a → OnlyChild l a
+pub only-child : (l : ℕ) (o : Bool) (a : DataType (suc l)) → (a .code ≡ List′) ⊎ (a .code ≡ LargeList) → WellFormedType (suc l) o a → OnlyChild l a
 unfolding typeBytes childrenBytes
 only-child l o a h (c, p, k) = go (a .children) (subst (λ y. WellFormedChildren (WellFormedType l) (y .children) (a .children)) e k) refl
   where

@@ -1,22 +1,21 @@
 -- The types of entries: their code, and what becomes of them.
-use Prim.Native.Nat.{ℕ, zero, suc, _+_, _*_, _/_, _%_, _≤_, _<_}
+use Prim.Native.Nat.{ℕ, suc, _+_, _*_, _/_, _%_, _<_}
 use native.Mathlib.Omega.{arith}
 use mathlib.Core.Path.{_≡_, refl, sym, ap, subst, _∙_}
 use mathlib.Core.List.{[], _∷_, _++_, append-nil}
-use mathlib.Core.Bool.{Bool, true, false, _||_, false≢true}
-use lib.ListN.{length, getD}
+use mathlib.Core.Bool.{_||_}
+use lib.ListN.{getD}
 use lib.Dec.{eqb}
 use borrow.Author.Tests.{eq-eqb, ne-eqb}
 use Rattle.model.specs.Bytes.{Bytes, flag}
 use Rattle.model.specs.Tree.{DataType}
-use Rattle.model.specs.Sheet.{typeBytes}
-use Rattle.walk.specs.Stands.{Stands, Skips}
+use Rattle.walk.specs.Stands.{Stands}
 use Rattle.walk.proofs.Standing.{stands-behind, skip-ahead}
 use Rattle.walk.proofs.Parts.{Ahead}
 use Rattle.walk.proofs.Descents.{code-stands}
 use Rattle.table.specs.Held.{Held}
 use Rattle.table.specs.Table.{noPlace, raw, u24, three, SpellType, spellRaw, spellStruct, spellList, spellUnion}
-use Rattle.table.proofs.Numbers.{length-u24, three-stands}
+use Rattle.table.proofs.Numbers.{three-stands}
 
 -- The place in a type's entry, and the code there
 

@@ -5,7 +5,7 @@ use mathlib.Core.List.{List, [], _∷_, _++_}
 use mathlib.Core.Bool.{true, false}
 use lib.ListN.{length}
 use Rattle.model.specs.Bytes.{Bytes, Every, sameBytes}
-use Rattle.model.specs.Tree.{Head, Field}
+use Rattle.model.specs.Tree.{Field}
 use Rattle.table.specs.Table.{noEntry, Rows, SpellField}
 use Rattle.table.specs.declared.Found.{Found}
 use Rattle.table.specs.declared.Found.the-variants.{At, Absent}

@@ -1,8 +1,7 @@
 -- `insert`: with room, no test stops.
-use mathlib.Core.Path.{refl, ap, _∙_}
+use mathlib.Core.Path.{refl}
 use native.Mathlib.Omega.{arith}
 use borrow.Author.Needs.{needs}
-use Rattle.buffer.proofs.Pasted.{length-pasted}
 use Rattle.table.proofs.Held.{held-length, held-inserted}
 use Rattle.table.proofs.insert.Statement.{statement}
 use Rattle.table.proofs.insert.Tie as tie
