@@ -54,6 +54,13 @@ uint8_t sheets_try_from_fields(uint16_t count,
                                uint8_t *answer, size_t answer_length,
                                size_t *place, size_t *length);
 
+/* The merge: one sheet out of a train, its sheets end to end. A clash has the sheet's number, from 0, for its
+ * place. */
+uint8_t sheets_merge(const uint8_t *train, size_t train_length,
+                     uint8_t *work, size_t work_length,
+                     uint8_t *answer, size_t answer_length,
+                     size_t *place, size_t *length);
+
 /* Schemas: the position of the first column of a name, two bytes, the lower first. */
 uint8_t sheets_index_of(const uint8_t *sheet, size_t sheet_length,
                         const uint8_t *name, size_t name_length,

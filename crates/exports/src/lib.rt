@@ -5,7 +5,7 @@ use buffer::Outcome;
 ghost use mathlib.Core.Path.{_≡_};
 ghost use mathlib.Core.List.{[]};
 ghost use mathlib.Core.Bool.{true, false};
-ghost use Rattle.model.specs.Call.{tryNewCall, tryFromFieldsCall, isNestedCall, equalCall, equalsDatatypeCall, containsCall, indexOfCall, flattenedFieldsCall, projectCall, normalizeCall, filterCall};
+ghost use Rattle.model.specs.Call.{tryNewCall, tryFromFieldsCall, isNestedCall, equalCall, equalsDatatypeCall, containsCall, mergeCall, indexOfCall, flattenedFieldsCall, projectCall, normalizeCall, filterCall};
 ghost use Rattle.exports.specs.Told.{told};
 
 // Writes place and length, and gives the number.
@@ -102,6 +102,21 @@ pub extern "C" fn sheets_contains(
     ensures { λ r. ⌜ told r (now (place .exit)) (now (length .exit)) (now (answer .exit)) (now (work .exit)) ≡ containsCall (now (sheet .entry)) (now (other .entry)) (now (work .entry)) (now (answer .entry)) ⌝ }
 {
     let outcome = datatype::contains(sheet, other, work, answer);
+    tell(outcome, place, length)
+}
+
+// Modules 4 and 5: the merge of a train.
+#[no_mangle]
+pub extern "C" fn sheets_merge(
+    train: &[u8],
+    work: &mut [u8],
+    answer: &mut [u8],
+    place: &mut usize,
+    length: &mut usize,
+) -> u8
+    ensures { λ r. ⌜ told r (now (place .exit)) (now (length .exit)) (now (answer .exit)) (now (work .exit)) ≡ mergeCall (now (train .entry)) (now (work .entry)) (now (answer .entry)) ⌝ }
+{
+    let outcome = try_merge::merge(train, work, answer);
     tell(outcome, place, length)
 }
 

@@ -1,0 +1,15 @@
+-- `sheets_merge` tells what `try_merge::merge` leaves.
+use borrow.Author.Needs.{needs}
+use Rattle.exports.proofs.Telling.{telling}
+use Rattle.exports.proofs.sheets_merge.Statement.{statement}
+use Rattle.exports.proofs.sheets_merge.Tie as tie
+
+pub sheets-merge-spec : {M : Type 1} → statement M
+sheets-merge-spec =
+    tie.close
+    (tie.spec
+    (λ c κs. search needs)
+    (λ c κs. search needs)
+    (λ c. search needs)
+    (λ c. search needs)
+    (λ c. telling _ _ _ (c .tell .ensures) (c .before .before .before .before .before .before .before .merge .ensures)))
