@@ -88,13 +88,6 @@ impl Options {
         cfg!(feature = "linked") && !self.oracle
     }
 
-    /// The operations that are compared: all that the second side has.
-    fn operations(&self) -> Vec<Operation> {
-        let mut operations = Operation::ALL.to_vec();
-        operations.retain(|operation| operation.linked() || !self.asks_the_library());
-        operations
-    }
-
     /// Says what is compared with what.
     fn headline(&self) -> String {
         let second = match self.asks_the_library() {
@@ -127,7 +120,7 @@ fn main() -> ExitCode {
         return ExitCode::from(2);
     }
     println!("{}", options.headline());
-    let operations = options.operations();
+    let operations = Operation::ALL;
     let jobs = jobs::plan(&operations, options.count, options.longest);
     let side = || options.side().expect("it was there before");
     let (tally, difference) = jobs::run(&jobs, options.threads(), &side);
@@ -192,17 +185,6 @@ mod tests {
             "--help",
         ] {
             assert_eq!(parsed(wrong), None, "{wrong}");
-        }
-    }
-
-    #[test]
-    fn the_oracle_is_asked_for_all_and_the_library_for_what_is_linked() {
-        assert_eq!(parsed("--oracle").unwrap().operations(), Operation::ALL);
-        let operations = parsed("").unwrap().operations();
-        let linked = Operation::ALL.into_iter().filter(|one| one.linked());
-        match cfg!(feature = "linked") {
-            true => assert_eq!(operations, linked.collect::<Vec<_>>()),
-            false => assert_eq!(linked.count(), 0),
         }
     }
 

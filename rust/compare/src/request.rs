@@ -67,14 +67,6 @@ impl Operation {
         Self::Normalize,
     ];
 
-    /// Whether this build links the call.
-    pub(crate) const fn linked(self) -> bool {
-        match self {
-            Self::Merge => cfg!(feature = "merging"),
-            _ => cfg!(feature = "linked"),
-        }
-    }
-
     /// The name, that of the export without its prefix.
     pub(crate) const fn name(self) -> &'static str {
         match self {

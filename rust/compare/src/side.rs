@@ -44,22 +44,19 @@ impl Side for Library {
     fn call(&mut self, request: &Request, work: &mut [u8], answer: &mut [u8]) -> Exit {
         let (first, second, number) = (&request.first[..], &request.second[..], request.number);
         let exit = match request.operation {
-            Operation::IsNested => sheets::is_nested(first, work, answer),
-            Operation::Equal => sheets::equal(first, second, work, answer),
-            Operation::IndexOf => sheets::index_of(first, second, work, answer),
-            Operation::TryNew => sheets::try_new(first, number, answer),
-            Operation::TryFromFields => sheets::try_from_fields(number, answer),
-            Operation::FlattenedFields => sheets::flattened_fields(first, work, answer),
-            Operation::EqualsDatatype => sheets::equals_datatype(first, second, work, answer),
-            Operation::Contains => sheets::contains(first, second, work, answer),
-            #[cfg(feature = "merging")]
-            Operation::Merge => sheets::merge(first, work, answer),
-            Operation::Project => sheets::project(first, second, work, answer),
-            Operation::ProjectStrict => sheets::project_strict(first, second, work, answer),
-            Operation::Filter => sheets::filter(first, second, work, answer),
-            Operation::Normalize => sheets::normalize(first, second, number, work, answer),
-            #[cfg(not(feature = "merging"))]
-            Operation::Merge => panic!("{} is not linked", request.operation.name()),
+            Operation::IsNested => sheets::lent::is_nested(first, work, answer),
+            Operation::Equal => sheets::lent::equal(first, second, work, answer),
+            Operation::IndexOf => sheets::lent::index_of(first, second, work, answer),
+            Operation::TryNew => sheets::lent::try_new(first, number, answer),
+            Operation::TryFromFields => sheets::lent::try_from_fields(number, answer),
+            Operation::FlattenedFields => sheets::lent::flattened_fields(first, work, answer),
+            Operation::EqualsDatatype => sheets::lent::equals_datatype(first, second, work, answer),
+            Operation::Contains => sheets::lent::contains(first, second, work, answer),
+            Operation::Merge => sheets::lent::merge(first, work, answer),
+            Operation::Project => sheets::lent::project(first, second, work, answer),
+            Operation::ProjectStrict => sheets::lent::project_strict(first, second, work, answer),
+            Operation::Filter => sheets::lent::filter(first, second, work, answer),
+            Operation::Normalize => sheets::lent::normalize(first, second, number, work, answer),
         };
         Exit {
             number: exit.number,

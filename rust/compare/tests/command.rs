@@ -75,21 +75,21 @@ fn the_library_agrees_on_a_short_run() {
     let output = compare("300 --short 1");
     let text = printed(&output);
     assert!(output.status.success(), "{text}");
-    for (operation, linked) in [
-        ("is_nested ", true),
-        ("equal ", true),
-        ("index_of ", true),
-        ("try_new ", true),
-        ("try_from_fields ", true),
-        ("flattened_fields ", true),
-        ("filter ", true),
-        ("contains ", true),
-        ("project ", true),
-        ("normalize ", true),
-        ("merge ", cfg!(feature = "merging")),
+    for operation in [
+        "is_nested ",
+        "equal ",
+        "index_of ",
+        "try_new ",
+        "try_from_fields ",
+        "flattened_fields ",
+        "filter ",
+        "contains ",
+        "project ",
+        "normalize ",
+        "merge ",
     ] {
         let compared = text.lines().any(|line| line.starts_with(operation));
-        assert_eq!(compared, linked, "{operation}\n{text}");
+        assert!(compared, "{operation}\n{text}");
     }
 }
 

@@ -1,8 +1,8 @@
-//! Each call once or twice through the linked library: that its arguments arrive in order.
-//! What the calls answer on the whole is for `compare` to find.
+//! Each call with lent buffers once or twice through the linked library: that its arguments
+//! arrive in order. What the calls answer on the whole is for `compare` to find.
 #![cfg(feature = "linked")]
 
-use sheets::Exit;
+use sheets::lent::Exit;
 
 /// `v:Int32` and a nameless `Struct{}`: 13 bytes.
 const SHEET: [u8; 13] = [2, 2, 0, 4, 1, 0, b'v', 4, 0, 32, 0, 0, 0];
@@ -38,20 +38,20 @@ fn with(
 fn is_nested() {
     let sheet = &SHEET[..LENGTH];
     let got = with(4 * LENGTH, 3, |work, answer| {
-        sheets::is_nested(sheet, work, answer)
+        sheets::lent::is_nested(sheet, work, answer)
     });
     assert_eq!(got, (exit(0, 0, 2), vec![0, 1, 170]));
     let got = with(52, 2, |work, answer| {
-        sheets::is_nested(&SHEET, work, answer)
+        sheets::lent::is_nested(&SHEET, work, answer)
     });
     assert_eq!(got, (exit(8, 12, 0), vec![170, 170]));
     let got = with(51, 2, |work, answer| {
-        sheets::is_nested(&SHEET, work, answer)
+        sheets::lent::is_nested(&SHEET, work, answer)
     });
     assert_eq!(got, (exit(32, 0, 0), vec![170, 170]));
     for sheet in [PLAIN, OTHER] {
         let got = with(32, 1, |work, answer| {
-            sheets::is_nested(&sheet, work, answer)
+            sheets::lent::is_nested(&sheet, work, answer)
         });
         assert_eq!(got, (exit(0, 0, 1), vec![0]));
     }
@@ -62,7 +62,7 @@ fn index_of() {
     let sheet = &SHEET[..LENGTH];
     let find = |name: &[u8], room: usize| {
         with(50, room, |work, answer| {
-            sheets::index_of(sheet, name, work, answer)
+            sheets::lent::index_of(sheet, name, work, answer)
         })
     };
     assert_eq!(find(b"v", 3), (exit(0, 0, 2), vec![0, 0, 170]));
@@ -75,7 +75,7 @@ fn index_of() {
 fn flattened_fields() {
     let sheet = &SHEET[..LENGTH];
     let got = with(48, 7, |work, answer| {
-        sheets::flattened_fields(sheet, work, answer)
+        sheets::lent::flattened_fields(sheet, work, answer)
     });
     assert_eq!(got, (exit(0, 0, 6), vec![2, 0, 3, 0, 8, 0, 170]));
 }
@@ -84,11 +84,11 @@ fn flattened_fields() {
 fn filter() {
     let sheet = &SHEET[..LENGTH];
     let got = with(48, 8, |work, answer| {
-        sheets::filter(sheet, &[1], work, answer)
+        sheets::lent::filter(sheet, &[1], work, answer)
     });
     assert_eq!(got, (exit(0, 0, 8), PLAIN.to_vec()));
     let got = with(48, 8, |work, answer| {
-        sheets::filter(sheet, &[1, 1], work, answer)
+        sheets::lent::filter(sheet, &[1, 1], work, answer)
     });
     assert_eq!(got, (exit(12, 0, 0), vec![170; 8]));
 }
@@ -101,10 +101,16 @@ fn ask(call: Call, one: &[u8], other: &[u8]) -> (Exit, Vec<u8>) {
 
 #[test]
 fn equality() {
-    assert_eq!(ask(sheets::equal, &PLAIN, &PLAIN), (exit(0, 0, 1), vec![1]));
-    assert_eq!(ask(sheets::equal, &PLAIN, &OTHER), (exit(0, 0, 1), vec![0]));
     assert_eq!(
-        ask(sheets::equal, &PLAIN, &PLAIN[..7]),
+        ask(sheets::lent::equal, &PLAIN, &PLAIN),
+        (exit(0, 0, 1), vec![1])
+    );
+    assert_eq!(
+        ask(sheets::lent::equal, &PLAIN, &OTHER),
+        (exit(0, 0, 1), vec![0])
+    );
+    assert_eq!(
+        ask(sheets::lent::equal, &PLAIN, &PLAIN[..7]),
         (exit(1, 15, 0), vec![170])
     );
 }
@@ -113,12 +119,12 @@ fn equality() {
 fn verdicts() {
     let yes = (exit(0, 0, 1), vec![1]);
     let no = (exit(0, 0, 1), vec![0]);
-    assert_eq!(ask(sheets::equals_datatype, &PLAIN, &PLAIN), yes);
-    assert_eq!(ask(sheets::equals_datatype, &PLAIN, &OTHER), no);
-    assert_eq!(ask(sheets::contains, &OTHER, &PLAIN), yes);
-    assert_eq!(ask(sheets::contains, &PLAIN, &OTHER), no);
+    assert_eq!(ask(sheets::lent::equals_datatype, &PLAIN, &PLAIN), yes);
+    assert_eq!(ask(sheets::lent::equals_datatype, &PLAIN, &OTHER), no);
+    assert_eq!(ask(sheets::lent::contains, &OTHER, &PLAIN), yes);
+    assert_eq!(ask(sheets::lent::contains, &PLAIN, &OTHER), no);
     assert_eq!(
-        ask(sheets::contains, &PLAIN, &PLAIN[..7]),
+        ask(sheets::lent::contains, &PLAIN, &PLAIN[..7]),
         (exit(1, 15, 0), vec![170])
     );
 }
@@ -126,12 +132,16 @@ fn verdicts() {
 #[test]
 fn numberings() {
     let number =
-        |ids: &[u8], count: u16| with(0, 3, |_, answer| sheets::try_new(ids, count, answer));
+        |ids: &[u8], count: u16| with(0, 3, |_, answer| sheets::lent::try_new(ids, count, answer));
     assert_eq!(number(&[9, 5], 2), (exit(0, 0, 2), vec![9, 5, 170]));
     assert_eq!(number(&[9, 9], 3), (exit(7, 1, 0), vec![170; 3]));
     assert_eq!(number(&[9, 200], 3), (exit(6, 1, 0), vec![170; 3]));
     assert_eq!(number(&[9], 65_535), (exit(14, 0, 0), vec![170; 3]));
-    let from = |count: u16| with(0, 3, |_, answer| sheets::try_from_fields(count, answer));
+    let from = |count: u16| {
+        with(0, 3, |_, answer| {
+            sheets::lent::try_from_fields(count, answer)
+        })
+    };
     assert_eq!(from(2), (exit(0, 0, 2), vec![0, 1, 170]));
     assert_eq!(from(129), (exit(16, 0, 0), vec![170; 3]));
     assert_eq!(from(4), (exit(31, 0, 0), vec![170; 3]));
@@ -142,11 +152,11 @@ fn projections() {
     let twice = [2, 2, 0, 4, 1, 0, b'v', 4, 4, 1, 0, b'v', 4];
     let list = [0; 4];
     let got = with(32, 13, |work, answer| {
-        sheets::project(&PLAIN, &list, work, answer)
+        sheets::lent::project(&PLAIN, &list, work, answer)
     });
     assert_eq!(got, (exit(0, 0, 13), twice.to_vec()));
     let got = with(32, 13, |work, answer| {
-        sheets::project_strict(&PLAIN, &list, work, answer)
+        sheets::lent::project_strict(&PLAIN, &list, work, answer)
     });
     assert_eq!(got, (exit(11, 1, 0), vec![170; 13]));
 }
@@ -159,25 +169,24 @@ fn normalize() {
     ];
     let flat = [2, 1, 0, 4, 5, 0, b's', b'-', b'a', b'-', b'b', 2];
     let got = with(88, 12, |work, answer| {
-        sheets::normalize(&nested, b"-", 0, work, answer)
+        sheets::lent::normalize(&nested, b"-", 0, work, answer)
     });
     assert_eq!(got, (exit(0, 0, 12), flat.to_vec()));
     let once = [
         2, 1, 0, 4, 3, 0, b's', b'-', b'a', 32, 1, 0, 4, 1, 0, b'b', 2,
     ];
     let got = with(88, 17, |work, answer| {
-        sheets::normalize(&nested, b"-", 1, work, answer)
+        sheets::lent::normalize(&nested, b"-", 1, work, answer)
     });
     assert_eq!(got, (exit(0, 0, 17), once.to_vec()));
 }
 
-#[cfg(feature = "merging")]
 #[test]
 fn merge() {
     let p3 = [2, 1, 0, 4, 1, 0, b'v', 0, 2, 1, 0, 4, 1, 0, b'v', 4];
-    let got = with(64, 9, |work, answer| sheets::merge(&p3, work, answer));
+    let got = with(64, 9, |work, answer| sheets::lent::merge(&p3, work, answer));
     assert_eq!(got, (exit(0, 0, 8), [&OTHER[..], &[170]].concat()));
     let p5 = [2, 1, 0, 4, 1, 0, b'v', 0, 2, 1, 0, 6, 1, 0, b'v', 34, 2, 24];
-    let got = with(72, 1, |work, answer| sheets::merge(&p5, work, answer));
+    let got = with(72, 1, |work, answer| sheets::lent::merge(&p5, work, answer));
     assert_eq!(got, (exit(20, 1, 0), vec![170]));
 }

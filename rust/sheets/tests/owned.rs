@@ -1,0 +1,204 @@
+//! Each function with buffers of its own, on the papers' examples, accepted and refused.
+#![cfg(feature = "linked")]
+
+use sheets::{Counts, Refusal};
+
+/// `v:Int32`, nullable.
+const NULLABLE: [u8; 8] = [2, 1, 0, 5, 1, 0, b'v', 4];
+/// `v:Int32`.
+const PLAIN: [u8; 8] = [2, 1, 0, 4, 1, 0, b'v', 4];
+/// `w:Int32`.
+const RENAMED: [u8; 8] = [2, 1, 0, 4, 1, 0, b'w', 4];
+/// `v:Int32` and a nameless `Struct{}`.
+const TWO_COLUMNS: [u8; 12] = [2, 2, 0, 4, 1, 0, b'v', 4, 0, 32, 0, 0];
+/// No columns.
+const EMPTY: [u8; 1] = [0];
+
+fn refused<T>(number: u8, place: usize) -> Result<T, Refusal> {
+    Err(Refusal::new(number, place))
+}
+
+#[test]
+fn is_nested() {
+    assert_eq!(sheets::is_nested(&TWO_COLUMNS), Ok(vec![false, true]));
+    assert_eq!(sheets::is_nested(&EMPTY), Ok(vec![]));
+    assert_eq!(sheets::is_nested(&[]), refused(1, 0));
+    assert_eq!(sheets::is_nested(&[0, 0]), refused(8, 1));
+}
+
+#[test]
+fn equality() {
+    assert_eq!(sheets::equal(&PLAIN, &PLAIN), Ok(true));
+    assert_eq!(sheets::equal(&PLAIN, &RENAMED), Ok(false));
+    assert_eq!(sheets::equal(&PLAIN, &PLAIN[..7]), refused(1, 15));
+    assert_eq!(sheets::equals_datatype(&PLAIN, &RENAMED), Ok(true));
+    assert_eq!(sheets::equals_datatype(&PLAIN, &NULLABLE), Ok(false));
+    assert_eq!(sheets::equals_datatype(&[4], &PLAIN), refused(2, 0));
+}
+
+#[test]
+fn containment() {
+    assert_eq!(sheets::contains(&NULLABLE, &PLAIN), Ok(true));
+    assert_eq!(sheets::contains(&PLAIN, &NULLABLE), Ok(false));
+    assert_eq!(sheets::contains(&PLAIN, &PLAIN[..7]), refused(1, 15));
+    // P12: an empty union contains a same-mode union of one child, not the reverse.
+    let empty = [2, 1, 0, 4, 1, 0, b'v', 33, 0, 0, 0];
+    let one = [2, 1, 0, 4, 1, 0, b'v', 33, 0, 1, 0, 0, 4, 1, 0, b'x', 2];
+    assert_eq!(sheets::contains(&empty, &one), Ok(true));
+    assert_eq!(sheets::contains(&one, &empty), Ok(false));
+}
+
+#[test]
+fn numberings() {
+    assert_eq!(sheets::try_new(&[9, 5], 2), Ok(vec![9, 5]));
+    let refusal = sheets::try_new(&[9, 200], 2).unwrap_err();
+    assert_eq!((refusal.number, refusal.place), (6, 1));
+    assert_eq!(refusal.counts, Counts::Entries);
+    assert_eq!(sheets::try_new(&[5, 5], 1), refused(15, 0));
+    assert_eq!(sheets::try_new(&[5], 2), refused(14, 0));
+    assert_eq!(sheets::try_from_fields(3), Ok(vec![0, 1, 2]));
+    assert_eq!(sheets::try_from_fields(0), Ok(vec![]));
+    let all: Vec<u8> = (0..128).collect();
+    assert_eq!(sheets::try_from_fields(128), Ok(all));
+    assert_eq!(sheets::try_from_fields(129), refused(16, 0));
+}
+
+#[test]
+fn index_of() {
+    assert_eq!(sheets::index_of(&TWO_COLUMNS, "v"), Ok(0));
+    assert_eq!(sheets::index_of(&TWO_COLUMNS, ""), Ok(1));
+    assert_eq!(sheets::index_of(&TWO_COLUMNS, "w"), refused(13, 0));
+    assert_eq!(sheets::index_of(&TWO_COLUMNS, [0xff]), refused(13, 0));
+    assert_eq!(sheets::index_of(&PLAIN[..7], "v"), refused(1, 7));
+}
+
+/// A sheet of so many Int8 columns without names.
+fn nameless(columns: u16) -> Vec<u8> {
+    let [low, high] = columns.to_le_bytes();
+    let mut sheet = vec![2, low, high];
+    sheet.extend([0, 2].repeat(columns.into()));
+    sheet
+}
+
+#[test]
+fn flattened_fields() {
+    assert_eq!(sheets::flattened_fields(&TWO_COLUMNS), Ok(vec![3, 8]));
+    assert_eq!(sheets::flattened_fields(&EMPTY), Ok(vec![]));
+    assert_eq!(sheets::flattened_fields(&[2]), refused(1, 1));
+    // As many fields as a sheet can have: the longest answer of all.
+    let offsets: Vec<u16> = (0..32_766).map(|column| 3 + 2 * column).collect();
+    assert_eq!(sheets::flattened_fields(&nameless(32_766)), Ok(offsets));
+}
+
+#[test]
+fn projections() {
+    let twice = vec![2, 2, 0, 4, 1, 0, b'v', 4, 4, 1, 0, b'v', 4];
+    assert_eq!(sheets::project(&PLAIN, &[0, 0]), Ok(twice));
+    assert_eq!(sheets::project_strict(&PLAIN, &[0, 0]), refused(11, 1));
+    let refusal = sheets::project_strict(&TWO_COLUMNS, &[1, 0, 2]);
+    assert_eq!(refusal, refused(10, 2));
+    // An index above 255 arrives with both its bytes.
+    assert_eq!(sheets::project(&PLAIN, &[256]), refused(10, 0));
+    assert_eq!(
+        sheets::project_strict(&nameless(300), &[299]),
+        Ok(nameless(1))
+    );
+    assert_eq!(sheets::project(&EMPTY, &[0]), refused(10, 0));
+    assert_eq!(sheets::project(&nameless(2), &[0; 32_767]), refused(30, 0));
+}
+
+#[test]
+fn normalize() {
+    // P9: s:Struct{a:Int32, e:Struct{}}
+    let sheet = [
+        2, 1, 0, 4, 1, 0, b's', 32, 2, 0, 4, 1, 0, b'a', 4, 4, 1, 0, b'e', 32, 0, 0,
+    ];
+    let all = vec![2, 1, 0, 4, 3, 0, b's', b'.', b'a', 4];
+    let once = vec![
+        2, 2, 0, 4, 3, 0, b's', b'.', b'a', 4, 4, 3, 0, b's', b'.', b'e', 32, 0, 0,
+    ];
+    assert_eq!(sheets::normalize(&sheet, ".", 0), Ok(all));
+    assert_eq!(sheets::normalize(&sheet, b".", 1), Ok(once));
+    assert_eq!(sheets::normalize(&sheet, [0xff], 0), refused(18, 0));
+    let separator = "-".repeat(65_535);
+    assert_eq!(sheets::normalize(&sheet, separator, 0), refused(30, 0));
+}
+
+#[test]
+fn filter() {
+    let two = [2, 2, 0, 4, 1, 0, b'v', 4, 4, 1, 0, b'w', 4];
+    assert_eq!(sheets::filter(&two, &[true, false]), Ok(PLAIN.to_vec()));
+    assert_eq!(sheets::filter(&two, &[false, true]), Ok(RENAMED.to_vec()));
+    assert_eq!(sheets::filter(&two, &[false; 2]), Ok(EMPTY.to_vec()));
+    assert_eq!(sheets::filter(&two, &[true; 3]), refused(12, 0));
+    assert_eq!(sheets::filter(&two[..9], &[true; 2]), refused(1, 9));
+}
+
+mod merging {
+    use super::*;
+    use sheets::{merge, merge_train};
+
+    /// `v:Null`.
+    const PARKED: [u8; 8] = [2, 1, 0, 4, 1, 0, b'v', 0];
+    /// `v:Dictionary(Int8, Utf8)`, ordered.
+    const ORDERED: [u8; 10] = [2, 1, 0, 6, 1, 0, b'v', 34, 2, 24];
+    /// `v:Int8`.
+    const BYTE: [u8; 8] = [2, 1, 0, 4, 1, 0, b'v', 2];
+
+    #[test]
+    fn the_parked_log_comes_first() {
+        // P1, P2, P3, P4, P5
+        assert_eq!(merge(&[]), Ok(EMPTY.to_vec()));
+        assert_eq!(merge(&[&PARKED]), Ok(PARKED.to_vec()));
+        assert_eq!(merge(&[&PARKED, &PLAIN]), Ok(NULLABLE.to_vec()));
+        let parked_twice = vec![2, 1, 0, 5, 1, 0, b'v', 0];
+        assert_eq!(merge(&[&PARKED, &PARKED]), Ok(parked_twice));
+        let refusal = merge(&[&PARKED, &ORDERED]).unwrap_err();
+        assert_eq!((refusal.number, refusal.place), (20, 1));
+        let told = "sheet 1: the ordered flags of a column differ";
+        assert_eq!(refusal.to_string(), told);
+    }
+
+    #[test]
+    fn a_train_is_merged_as_its_sheets_are() {
+        assert_eq!(merge_train(&[]), Ok(EMPTY.to_vec()));
+        for sheets in [[&PARKED, &PLAIN], [&PLAIN, &BYTE], [&RENAMED, &PLAIN]] {
+            let slices = sheets.map(|sheet| &sheet[..]);
+            assert_eq!(merge(&slices), merge_train(&slices.concat()));
+        }
+        assert_eq!(merge_train(&[PLAIN, BYTE].concat()), refused(22, 1));
+    }
+
+    #[test]
+    fn a_slice_is_one_whole_sheet() {
+        let (begin, end) = PLAIN.split_at(3);
+        assert_eq!(merge_train(&PLAIN), Ok(PLAIN.to_vec()));
+        assert_eq!(merge(&[begin, end]), refused(1, 3));
+        assert_eq!(merge(&[&PARKED, &[PLAIN, PLAIN].concat()]), refused(8, 16));
+        assert_eq!(merge(&[&PARKED, &[], &PLAIN]), refused(1, 8));
+        // A broken sheet is told before a clash of the sheets before it.
+        assert_eq!(merge(&[&PLAIN, &BYTE, &[4]]), refused(2, 16));
+    }
+
+    #[test]
+    fn there_are_at_most_256_sheets() {
+        let sheets = vec![&PLAIN[..]; 257];
+        assert_eq!(merge(&sheets[..256]), Ok(PLAIN.to_vec()));
+        assert_eq!(merge(&sheets), refused(33, 2048));
+        assert_eq!(merge_train(&sheets.concat()), refused(33, 2048));
+        // Nothing of the 257th is read, not even whether it has a byte.
+        assert_eq!(merge(&[&sheets[..256], &[&[]]].concat()), refused(33, 2048));
+    }
+
+    #[test]
+    fn a_table_too_long_is_refused() {
+        let long = |first: u8| {
+            let mut sheet = vec![2, 1, 0, 4, 0x60, 0xea, first];
+            sheet.resize(6 + 60_000, b'n');
+            sheet.push(2);
+            sheet
+        };
+        assert_eq!(merge(&[&long(b'a'), &long(b'b')]), refused(30, 0));
+        assert_eq!(merge(&[&long(b'a'), &long(b'a')]), Ok(long(b'a')));
+    }
+}
