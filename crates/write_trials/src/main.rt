@@ -1,43 +1,10 @@
-// Runs what document 01's bench trials say of the calls that write a sheet: P9 (normalising), P10 (projection), index 0 of no columns,
-// P11 (the leaf filter: one leaf).
-// Each line has the number, the place and the answer in hex, as the program merge prints them.
-use buffer::Outcome;
+// Runs what document 01's bench trials say of the calls that write a sheet: the merge (merging.rt); P9 (normalising), P10 (projection),
+// index 0 of no columns, P11 (the leaf filter: one leaf).
+mod merging;
+mod showing;
 
-// A line: what was called, number, space, place, space, the answer in hex or `-`.
-fn show(what: &[u8], outcome: Outcome, answer: &[u8]) {
-    io::write_all(1, what);
-    io::write_all(1, b": ");
-    io::print_decimal(1, outcome.number as u64);
-    io::write_all(1, b" ");
-    io::print_decimal(1, outcome.place as u64);
-    io::write_all(1, b" ");
-    if outcome.number == 0 {
-        hex(answer, outcome.length);
-    } else {
-        io::write_all(1, b"-");
-    }
-    io::write_all(1, b"\n");
-}
-
-// A digit below 16.
-fn digit(n: u8) -> u8 {
-    if n < 10 {
-        return 48 + n;
-    }
-    87 + n % 16
-}
-
-// The first bytes, two digits each.
-fn hex(answer: &[u8], length: usize) {
-    let mut i = 0;
-    while i < length {
-        if i < answer.len() {
-            let pair = [digit(answer[i] / 16), digit(answer[i] % 16)];
-            io::write_all(1, &pair);
-        }
-        i += 1;
-    }
-}
+use merging::merges;
+use showing::show;
 
 fn normalize(what: &[u8], sheet: &[u8], level: u16) {
     let mut work = [0u8; 100];
@@ -68,6 +35,7 @@ fn filter(what: &[u8], sheet: &[u8], mask: &[u8]) {
 }
 
 fn main() {
+    merges();
     // s:Struct{a:Int32, e:Struct{}}
     let s = b"\x02\x01\x00\x04\x01\x00s\x20\x02\x00\x04\x01\x00a\x04\x04\x01\x00e\x20\x00\x00";
     normalize(b"P9 level 0", s, 0);

@@ -1,0 +1,18 @@
+-- What the program merge prints, in the buffer that it prints from.
+use Prim.Native.Nat.{ℕ, _+_, _*_, _≤_}
+use mathlib.Core.Path.{_≡_}
+use mathlib.Core.List.{_++_}
+use lib.ListN.{length, drop}
+use Rattle.model.specs.Numbers.{maxProgramBytes}
+use Rattle.model.specs.Bytes.{Bytes}
+use Rattle.model.specs.Program.{programLine}
+
+-- the longest line: "0 0 ", two digits for each byte of an answer that is as long as the longest input, and the line feed
+abbrev pub maxLineBytes : ℕ
+maxLineBytes = 4 + 2 * maxProgramBytes + 1
+
+-- of a buffer w that has room for the longest line: the line for the input stands at its start then, in r bytes, and the rest is as it was
+pub record Prints (input w w′ : Bytes) (r : ℕ) : Type 0 where
+  pub counted : r ≡ length (programLine input)
+  pub fits : r ≤ length w′
+  pub written : w′ ≡ programLine input ++ drop (length (programLine input)) w

@@ -1,0 +1,2 @@
+-- The laws about `specs/` that the proofs here cite.
+pub mod Inputs

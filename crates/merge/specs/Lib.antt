@@ -1,0 +1,2 @@
+-- The definitions that the contracts of `merge` cite.
+pub mod Input

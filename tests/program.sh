@@ -1,0 +1,83 @@
+#!/usr/bin/env bash
+# The program merge, run as it is: what it prints for trains that come by a pipe, by a file and in pieces. The proofs give the line for what
+# was read; this tries what they leave to the program: reading to the end or to the 16,001st byte, and writing the whole line.
+# The last line is 'N passed, M failed'; the status is 0 only where M is 0.
+set -u
+cd "$(dirname "$0")/.." || exit 1
+program=target/bin/merge
+passed=0
+failed=0
+wanted=$(mktemp) || exit 1
+printed=$(mktemp) || exit 1
+trap 'rm -f "$wanted" "$printed"' EXIT
+
+# proves and builds the program and what it is made of, where that has changed since
+if ! rt check merge || [ ! -x "$program" ]; then
+  echo "FAILED: the program was not built"
+  echo "0 passed, 1 failed"
+  exit 1
+fi
+
+# check WHAT LINE: standard input goes to the program, which must print this line, its line feed too, and nothing else
+check() {
+  printf '%s\n' "$2" >"$wanted"
+  "$program" >"$printed"
+  if cmp -s "$printed" "$wanted"; then
+    passed=$((passed + 1))
+    echo "ok: $1"
+  else
+    failed=$((failed + 1))
+    echo "FAILED: $1: wanted $(head -c 60 "$wanted"), printed $(head -c 60 "$printed")"
+  fi
+}
+
+# sheet TYPE: the sheet of one column v of the type with this code, as printf takes it
+sheet() { printf "\\x02\\x01\\x00\\x04\\x01\\x00v$1"; }
+
+# long BYTES: a sheet of one Null column, whose name fills it up to so many bytes: 7 are not the name's
+long() {
+  local name=$(($1 - 7))
+  printf '\x02\x01\x00\x04'
+  printf "\\x$(printf %02x $((name % 256)))\\x$(printf %02x $((name / 256)))"
+  head -c "$name" /dev/zero | tr '\0' a
+  printf '\x00'
+}
+
+# in_hex: standard input in lower-case hex
+in_hex() { od -An -v -tx1 | tr -d ' \n'; }
+
+check "P3: Null, then Int32" "0 0 0201000501007604" < <(sheet '\x00'; sheet '\x04')
+check "P1: no bytes" "0 0 00" </dev/null
+check "one sheet" "0 0 0201000401007604" < <(sheet '\x04')
+check "in two pieces, inside a sheet" "0 0 0201000501007604" < <(sheet '\x00'; printf '\x02\x01'; sleep 0.2; printf '\x00\x04\x01\x00v\x04')
+check "byte by byte" "0 0 0201000401007604" < <(for b in 02 01 00 04 01 00 76 04; do printf "\\x$b"; sleep 0.02; done)
+check "a clash: Int8, then Int16" "22 1 -" < <(sheet '\x02'; sheet '\x03')
+check "a broken sheet: it ends inside its name" "1 6 -" < <(printf '\x02\x01\x00\x04\x01\x00')
+check "a broken second sheet: an unknown code" "2 15 -" < <(sheet '\x00'; sheet '\x29')
+check "256 sheets" "0 0 00" < <(head -c 256 /dev/zero)
+check "257 sheets" "33 256 -" < <(head -c 257 /dev/zero)
+check "16,000 bytes" "0 0 $(long 16000 | in_hex)" < <(long 16000)
+check "16,000 bytes in two pieces" "0 0 $(long 16000 | in_hex)" < <(long 16000 | head -c 9000; sleep 0.2; long 16000 | tail -c 7000)
+check "16,001 bytes" "35 0 -" < <(long 16001)
+check "16,001 bytes in two pieces" "35 0 -" < <(long 16001 | head -c 16000; sleep 0.2; printf '\x00')
+check "more than a buffer of bytes" "35 0 -" < <(head -c 1000000 /dev/zero)
+
+# quiet WHAT: the program ran and had no line to print, or could not print it: nothing is printed, and standard error says why
+quiet() {
+  if [ ! -s "$printed" ] && [ -s "$wanted" ]; then
+    passed=$((passed + 1))
+    echo "ok: $1"
+  else
+    failed=$((failed + 1))
+    echo "FAILED: $1: printed $(head -c 60 "$printed"), said $(head -c 60 "$wanted")"
+  fi
+}
+
+"$program" <crates >"$printed" 2>"$wanted"
+quiet "an input that cannot be read: a folder"
+: >"$printed"
+"$program" </dev/null >/dev/full 2>"$wanted"
+quiet "a line that cannot be written: a full device"
+
+echo "$passed passed, $failed failed"
+[ "$failed" -eq 0 ]
