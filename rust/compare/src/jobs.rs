@@ -2,7 +2,7 @@
 //! its own seed, so the requests are the same whichever thread does it.
 
 use crate::bench::{Bench, Difference};
-use crate::request::{Operation, Takes};
+use crate::request::Operation;
 use crate::side::Side;
 use crate::tally::Tally;
 use crate::{fixed, generate, short};
@@ -10,8 +10,8 @@ use oracle::random::Random;
 use std::sync::Mutex;
 use std::sync::atomic::{AtomicUsize, Ordering};
 
-/// Random requests in one job.
-const JOB: usize = 500;
+/// Random requests in one job: a batch.
+pub(crate) const JOB: usize = 500;
 
 /// A part of a run.
 #[derive(Clone, Copy, Debug)]
@@ -20,6 +20,9 @@ pub(crate) enum Job {
     Fixed(Operation),
     /// The byte strings up to a length that begin with a byte.
     Sheets(Operation, u8, usize),
+    /// The strings of telling bytes, one and two bytes longer than a length, that begin with
+    /// a byte.
+    Telling(Operation, u8, usize),
     /// The texts up to a length that begin with a byte.
     Texts(u8, usize),
     /// All numbers of fields.
@@ -30,8 +33,8 @@ pub(crate) enum Job {
     Random(Operation, u64, usize),
 }
 
-/// The jobs of a run: the fixed list, what is short (byte strings up to `longest` bytes as
-/// sheets, for the calls on one sheet), and `count` random requests for each operation.
+/// The jobs of a run: the fixed list, what is short (byte strings up to `longest` bytes, and
+/// of telling bytes up to two more, as sheets), and `count` random requests for each operation.
 pub(crate) fn plan(operations: &[Operation], count: usize, longest: usize) -> Vec<Job> {
     let mut jobs: Vec<Job> = operations
         .iter()
@@ -40,8 +43,10 @@ pub(crate) fn plan(operations: &[Operation], count: usize, longest: usize) -> Ve
     jobs.extend([Job::Counts, Job::Ids(longest.saturating_sub(1))]);
     jobs.extend(short::TEXT_BYTES.map(|first| Job::Texts(first, longest + 1)));
     for &operation in operations {
-        if matches!(operation.takes(), Takes::Sheet | Takes::SheetAndName) {
+        if operation.takes().sheets() {
             jobs.extend((0..=u8::MAX).map(|first| Job::Sheets(operation, first, longest)));
+            let telling = short::TELLING.map(|first| Job::Telling(operation, first, longest));
+            jobs.extend(telling);
         }
     }
     for from in (0..count).step_by(JOB) {
@@ -60,13 +65,16 @@ impl Job {
             Self::Sheets(operation, first, longest) => {
                 short::sheets(bench, operation, first, longest)
             }
+            Self::Telling(operation, first, longest) => {
+                short::telling(bench, operation, first, longest)
+            }
             Self::Texts(first, longest) => short::texts(bench, first, longest),
             Self::Counts => short::counts(bench),
             Self::Ids(longest) => short::ids(bench, longest),
             Self::Random(operation, seed, count) => {
                 let mut random = Random::new(seed);
-                (0..count).try_for_each(|_| {
-                    let (request, outcome) = generate::request(&mut random, operation);
+                (0..count).try_for_each(|turn| {
+                    let (request, outcome) = generate::request(&mut random, operation, turn);
                     bench.run(&request, outcome)
                 })
             }
@@ -153,6 +161,14 @@ mod tests {
             let (tally, _) = run(&jobs(longest), 2, &|| Box::new(Oracle));
             assert_eq!(tally.requests(), strings);
         }
+    }
+
+    #[test]
+    fn all_strings_of_telling_bytes_of_two_lengths_are_tried() {
+        let jobs = short::TELLING.map(|first| Job::Telling(Operation::Filter, first, 1));
+        let (tally, _) = run(&jobs, 2, &|| Box::new(Oracle));
+        let bytes = short::TELLING.len() as u64;
+        assert_eq!(tally.requests(), bytes.pow(2) + bytes.pow(3));
     }
 
     #[test]

@@ -7,11 +7,15 @@
 //! Status 0 and the last line `compare: N requests, no difference` where both sides agree;
 //! status 1 and the first difference where they do not, or where, in a run of at least the
 //! default count, a number that an operation can give never came up.
+//!
+//! `compare --record FILE` writes a sample of the oracle's answers: the stored list that the
+//! program crates/replay goes through with no Rust at hand.
 
 mod bench;
 mod fixed;
 mod generate;
 mod jobs;
+mod record;
 mod request;
 mod short;
 mod side;
@@ -22,16 +26,17 @@ use side::{Fault, Faulty, Oracle, Side};
 use std::process::ExitCode;
 
 /// Random requests for each operation where no count is given.
-const DEFAULT_COUNT: usize = 300_000;
+const DEFAULT_COUNT: usize = 1_000_000;
 
 const USAGE: &str = "\
-usage: compare [COUNT] [--short BYTES] [--oracle] [--fault WHAT]
-  COUNT           random requests for each operation (default 300000)
-  --short BYTES   all byte strings up to this length as sheets, texts one byte longer, lists
-                  of ids one shorter (default 3)
+usage: compare [COUNT] [--short BYTES] [--oracle] [--fault WHAT] | --record FILE
+  COUNT           random requests for each operation (default 1000000)
+  --short BYTES   all byte strings up to this length as sheets, strings of telling bytes up to
+                  two longer, texts one longer, lists of ids one shorter (default 3)
   --oracle        compare the oracle with itself, not with the linked library
   --fault WHAT    change WHAT (number, place, length, answer or work) of the second side at
-                  every thousandth request: the run must then end with a difference";
+                  every thousandth request: the run must then end with a difference
+  --record FILE   compare nothing: write a sample of the oracle's answers to this file";
 
 /// What the command line asks for.
 #[derive(Debug, PartialEq)]
@@ -40,6 +45,7 @@ struct Options {
     longest: usize,
     oracle: bool,
     fault: Option<Fault>,
+    record: Option<String>,
 }
 
 fn options(mut words: impl Iterator<Item = String>) -> Option<Options> {
@@ -48,11 +54,13 @@ fn options(mut words: impl Iterator<Item = String>) -> Option<Options> {
         longest: short::LONGEST,
         oracle: false,
         fault: None,
+        record: None,
     };
     while let Some(word) = words.next() {
         match word.as_str() {
             "--short" => options.longest = words.next()?.parse().ok()?,
             "--oracle" => options.oracle = true,
+            "--record" => options.record = Some(words.next()?),
             "--fault" => options.fault = Some(Fault::named(&words.next()?)?),
             count => options.count = count.parse().ok()?,
         }
@@ -114,6 +122,9 @@ fn main() -> ExitCode {
         eprintln!("{USAGE}");
         return ExitCode::from(2);
     };
+    if let Some(file) = &options.record {
+        return record(file);
+    }
     if options.side().is_none() {
         eprintln!("compare: built without the feature linked, so there is no library to compare");
         eprintln!("with; --oracle compares the oracle with itself and shows nothing of the port");
@@ -134,6 +145,26 @@ fn main() -> ExitCode {
     }
     println!("compare: {} requests, no difference", tally.requests());
     ExitCode::SUCCESS
+}
+
+/// Writes the stored answers, unless one that they must have is missing.
+fn record(file: &str) -> ExitCode {
+    let list = match record::list() {
+        Ok(list) => list,
+        Err(missing) => {
+            for (operation, number) in missing {
+                eprintln!("compare: no {number} of {} is short", operation.name());
+            }
+            return ExitCode::FAILURE;
+        }
+    };
+    match std::fs::write(file, list) {
+        Ok(()) => ExitCode::SUCCESS,
+        Err(error) => {
+            eprintln!("compare: {file}: {error}");
+            ExitCode::FAILURE
+        }
+    }
 }
 
 /// Says which numbers came up that must not, and which did not that must, where all must.
@@ -167,6 +198,7 @@ mod tests {
             longest: 3,
             oracle: false,
             fault: None,
+            record: None,
         };
         assert_eq!(parsed(""), Some(usual));
         let small = Options {
@@ -174,13 +206,16 @@ mod tests {
             longest: 0,
             oracle: true,
             fault: Some(Fault::Work),
+            record: Some("list".to_owned()),
         };
-        assert_eq!(parsed("12 --oracle --short 0 --fault work"), Some(small));
+        let words = "12 --oracle --short 0 --fault work --record list";
+        assert_eq!(parsed(words), Some(small));
         for wrong in [
             "twelve",
             "--fault",
             "--fault sheet",
             "--short",
+            "--record",
             "--short x",
             "--help",
         ] {

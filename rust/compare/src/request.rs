@@ -103,7 +103,8 @@ impl Operation {
     /// The numbers that it can give, 0 and 31 among them always.
     ///
     /// 30 is no number of an operation whose answer cannot be longer than its sheet: a strict
-    /// projection or a filter of it, or two bytes for each of its fields.
+    /// projection or a filter of it, or two bytes for each of its fields. 35 is no call's: the
+    /// program merge alone gives it, and tests/program.sh tries that.
     pub(crate) fn numbers(self) -> Vec<u8> {
         let own: &[u8] = match self {
             Self::IsNested

@@ -1,12 +1,19 @@
-//! Everything that is short: all byte strings up to 3 bytes as sheets, all texts of up to 4
-//! telling bytes as a name, all lists of up to 2 ids, all counts.
+//! Everything that is short: all byte strings up to 3 bytes, and all of 4 and 5 telling bytes,
+//! as sheets, all texts of up to 4 telling bytes as a name, all lists of up to 2 ids, all
+//! counts.
 
 use crate::bench::{Bench, Difference};
-use crate::request::{Operation, Request};
+use crate::request::{Operation, Request, Takes};
 
-/// The longest byte strings that are all tried as sheets. Texts go one byte further (to the
-/// longest sequence of UTF-8), lists of ids one less.
+/// The longest byte strings that are all tried as sheets. Strings of telling bytes go two bytes
+/// further, texts one (to the longest sequence of UTF-8), lists of ids one less.
 pub(crate) const LONGEST: usize = 3;
+
+/// Bytes that tell something in the first five bytes of a sheet: maps, small counts, the codes
+/// that read on in one way or another, the first that is none, and edges.
+pub(crate) const TELLING: [u8; 20] = [
+    0, 1, 2, 3, 4, 5, 8, 13, 16, 24, 27, 32, 33, 34, 39, 40, 41, 127, 128, 255,
+];
 
 /// Every byte that stands at an edge of RFC 3629's table.
 pub(crate) const TEXT_BYTES: [u8; 24] = [
@@ -24,6 +31,37 @@ fn run(bench: &mut Bench, request: &mut Request) -> Result<(), Box<Difference>> 
     bench.run(request, outcome)
 }
 
+/// A request of this operation that wants its sheet, its train or the second of two sheets.
+fn wanting(operation: Operation) -> Request {
+    let (first, second) = match operation.takes() {
+        Takes::TwoSheets => (vec![0], Vec::new()),
+        Takes::SheetAndList => (Vec::new(), vec![0, 0]),
+        Takes::SheetAndMask => (Vec::new(), vec![1]),
+        Takes::SheetSeparatorAndLevel => (Vec::new(), b".".to_vec()),
+        _ => (Vec::new(), Vec::new()),
+    };
+    Request {
+        second,
+        answer: 5,
+        ..Request::new(operation, first)
+    }
+}
+
+/// Runs a request that wants a sheet with these bytes as the sheet.
+fn with_sheet(
+    bench: &mut Bench,
+    request: &mut Request,
+    bytes: &[u8],
+) -> Result<(), Box<Difference>> {
+    let sheet = match request.operation.takes() {
+        Takes::TwoSheets => &mut request.second,
+        _ => &mut request.first,
+    };
+    sheet.clear();
+    sheet.extend_from_slice(bytes);
+    run(bench, request)
+}
+
 /// Every byte string that begins with this byte and has at most so many bytes, as a sheet.
 pub(crate) fn sheets(
     bench: &mut Bench,
@@ -31,18 +69,34 @@ pub(crate) fn sheets(
     first: u8,
     longest: usize,
 ) -> Result<(), Box<Difference>> {
-    let mut request = Request::new(operation, vec![first]);
-    request.answer = 5;
+    let mut request = wanting(operation);
     let every: Vec<u8> = (0..=u8::MAX).collect();
-    let mut try_one = |bytes: &[u8]| {
-        request.first.clear();
-        request.first.extend_from_slice(bytes);
-        run(bench, &mut request)
-    };
     if first == 0 {
-        try_one(&[])?;
+        with_sheet(bench, &mut request, &[])?;
     }
-    strings(&mut vec![first], &every, longest, &mut try_one)
+    strings(&mut vec![first], &every, longest, &mut |bytes| {
+        with_sheet(bench, &mut request, bytes)
+    })
+}
+
+/// Every string of telling bytes that begins with this one and is one or two bytes longer than
+/// the longest of the byte strings that are all tried, as a sheet.
+pub(crate) fn telling(
+    bench: &mut Bench,
+    operation: Operation,
+    first: u8,
+    longest: usize,
+) -> Result<(), Box<Difference>> {
+    let mut request = wanting(operation);
+    strings(
+        &mut vec![first],
+        &TELLING,
+        longest + 2,
+        &mut |bytes| match bytes.len() > longest {
+            true => with_sheet(bench, &mut request, bytes),
+            false => Ok(()),
+        },
+    )
 }
 
 /// Every text of at most so many telling bytes that begins with this one, as a column's name.

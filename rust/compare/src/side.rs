@@ -169,8 +169,8 @@ mod tests {
         };
         let mut bench = Bench::new(side);
         let mut random = Random::new(3);
-        (1..=1100).find(|_| {
-            let (request, outcome) = generate::request(&mut random, operation);
+        (1..=1100).find(|&turn| {
+            let (request, outcome) = generate::request(&mut random, operation, turn as usize);
             bench.run(&request, outcome).is_err()
         })
     }

@@ -2,6 +2,7 @@
 
 mod damage;
 mod parameters;
+mod parked;
 mod source;
 mod trains;
 mod vary;
@@ -10,10 +11,24 @@ use crate::request::{Operation, Request, Takes};
 use oracle::operations::Outcome;
 use oracle::random::Random;
 
-/// A random request of this operation with what the oracle's operation gives on it, and
-/// buffers of lengths that suit it.
-pub(crate) fn request(random: &mut Random, operation: Operation) -> (Request, Outcome) {
-    let mut request = inputs(random, operation);
+/// One train in so many begins with a parked log, each kind of them in its turn: a batch has
+/// them all.
+const PARKED: usize = 20;
+const _: () = assert!(PARKED * parked::KINDS <= crate::jobs::JOB);
+
+/// A random request of this operation, the so-manyth of its batch, with what the oracle's
+/// operation gives on it, and buffers of lengths that suit it.
+pub(crate) fn request(
+    random: &mut Random,
+    operation: Operation,
+    turn: usize,
+) -> (Request, Outcome) {
+    let mut request = match operation.takes() {
+        Takes::Train if turn.is_multiple_of(PARKED) => {
+            Request::new(operation, parked::train(random, turn / PARKED))
+        }
+        _ => inputs(random, operation),
+    };
     let outcome = request.outcome();
     lend(random, &mut request, &outcome);
     (request, outcome)
@@ -51,7 +66,7 @@ fn inputs(random: &mut Random, operation: Operation) -> Request {
         Takes::SheetAndList => {
             let (sheet, schema) = source::sheet_and_schema(random);
             Request {
-                second: parameters::list(random, schema.fields.len()),
+                second: parameters::list(random, &sheet, schema.fields.len()),
                 ..Request::new(operation, sheet)
             }
         }
@@ -64,9 +79,10 @@ fn inputs(random: &mut Random, operation: Operation) -> Request {
         }
         Takes::SheetSeparatorAndLevel => {
             let sheet = source::sheet(random);
+            let number = parameters::level(random);
             Request {
-                second: parameters::separator(random),
-                number: parameters::level(random),
+                second: parameters::separator(random, &sheet, number),
+                number,
                 ..Request::new(operation, sheet)
             }
         }
@@ -106,8 +122,8 @@ mod tests {
         for operation in Operation::ALL {
             fixed::run(&mut bench, operation).unwrap();
             let mut random = Random::new(operation as u64);
-            for _ in 0..3000 {
-                let (request, outcome) = request(&mut random, operation);
+            for turn in 0..3000 {
+                let (request, outcome) = request(&mut random, operation, turn);
                 bench.run(&request, outcome).unwrap();
             }
         }
@@ -124,8 +140,8 @@ mod tests {
         ] {
             let mut random = Random::new(9);
             let mut verdicts = [0; 2];
-            for _ in 0..2000 {
-                if let Ok(answer) = request(&mut random, operation).1 {
+            for turn in 0..2000 {
+                if let Ok(answer) = request(&mut random, operation, turn).1 {
                     verdicts[usize::from(answer[0])] += 1;
                 }
             }
@@ -133,11 +149,36 @@ mod tests {
         }
     }
 
+    /// How many bytes the answers that come near a sheet's limit have, and how many are too
+    /// long.
+    fn near_the_limit(operation: Operation, requests: usize) -> (Vec<usize>, usize) {
+        let mut random = Random::new(11);
+        let (mut near, mut long) = (Vec::new(), 0);
+        for _ in 0..requests {
+            match request(&mut random, operation, 1).1 {
+                Ok(answer) if answer.len() > 65_500 => near.push(answer.len()),
+                Err(refusal) if refusal.number == 30 => long += 1,
+                _ => {}
+            }
+        }
+        (near, long)
+    }
+
+    #[test]
+    fn answers_come_near_the_limit_from_both_sides() {
+        for operation in [Operation::Merge, Operation::Project, Operation::Normalize] {
+            let (near, long) = near_the_limit(operation, 8000);
+            assert!(near.len() > 2, "{operation:?} {near:?}");
+            assert!(near.iter().any(|&length| length > 65_530), "{near:?}");
+            assert!(long > 5, "{operation:?} {long}");
+        }
+    }
+
     #[test]
     fn the_same_seed_gives_the_same_requests() {
         let made = |seed| {
             let mut random = Random::new(seed);
-            let requests = Operation::ALL.map(|operation| request(&mut random, operation));
+            let requests = Operation::ALL.map(|operation| request(&mut random, operation, 1));
             format!("{requests:?}")
         };
         assert_eq!(made(1), made(1));

@@ -1,7 +1,8 @@
 //! Names, ids, counts, index lists, masks, separators and levels.
 
 use arrow_schema::Schema;
-use oracle::operations::leaf_count;
+use oracle::limits::SHEET_BYTES;
+use oracle::operations::{self, Outcome, leaf_count};
 use oracle::random::{self, Random};
 
 /// Text that is none, by RFC 3629: a lone continuation, an overlong form, a surrogate, a
@@ -62,8 +63,23 @@ pub(super) fn count(random: &mut Random) -> u16 {
     count as u16
 }
 
-/// An index list for so many columns.
-pub(super) fn list(random: &mut Random, columns: usize) -> Vec<u8> {
+/// How many of something make an answer of 65,535 bytes, a few less or a few more; none where
+/// that changes no answer. `answer` gives the answer with so many.
+fn filling(random: &mut Random, answer: impl Fn(usize) -> Outcome) -> Option<usize> {
+    let length = |count| Some(answer(count).ok()?.len());
+    let (one, two) = (length(1)?, length(2)?);
+    let most = SHEET_BYTES - 4 + random.below(9);
+    let left = most.checked_sub(one)?;
+    Some(1 + left.checked_div(two - one)?)
+}
+
+/// An index list for the sheet of so many columns.
+pub(super) fn list(random: &mut Random, sheet: &[u8], columns: usize) -> Vec<u8> {
+    if random.once_in(200) {
+        let index = (random.below(columns.max(1)) as u16).to_le_bytes();
+        let list = |entries| operations::project(sheet, &index.repeat(entries));
+        return index.repeat(filling(random, list).unwrap_or(1));
+    }
     let entries = match random.below(40) {
         0 => 200 + random.below(3000),
         1..=9 => columns,
@@ -104,13 +120,21 @@ pub(super) fn mask(random: &mut Random, sheet: &[u8]) -> Vec<u8> {
         .collect()
 }
 
-/// A separator: short, empty, no text, or so long that an answer passes 65,535 bytes.
-pub(super) fn separator(random: &mut Random) -> Vec<u8> {
+/// A separator for the sheet: short, empty, no text, or so long that the answer has about
+/// 65,535 bytes.
+pub(super) fn separator(random: &mut Random, sheet: &[u8], level: u16) -> Vec<u8> {
+    let of = |bytes| vec![b'-'; bytes];
     match random.below(60) {
         0..5 => no_text(random),
-        5 => vec![b'-'; 65_000 + random.below(1000)],
-        6..10 => Vec::new(),
-        10..20 => "é".into(),
+        5 => of(65_000 + random.below(1000)),
+        6 => {
+            let bytes = filling(random, |bytes| {
+                operations::normalize(sheet, &of(bytes), level)
+            });
+            of(bytes.unwrap_or(1))
+        }
+        7..11 => Vec::new(),
+        11..20 => "é".into(),
         _ => ".".into(),
     }
 }

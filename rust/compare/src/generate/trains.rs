@@ -1,8 +1,10 @@
-//! Trains: related sheets end to end, many small ones, and ones whose merge is too long.
+//! Trains: related sheets end to end, many small ones, and ones whose merge is too long or
+//! nearly so.
 
 use super::{damage, source, vary};
 use arrow_schema::{DataType, Field, Schema, UnionFields, UnionMode};
-use oracle::limits::TRAIN_SHEETS;
+use oracle::limits::{SHEET_BYTES, TRAIN_SHEETS};
+use oracle::operations;
 use oracle::random::{self, Random};
 
 /// A train, damaged or not.
@@ -11,7 +13,8 @@ pub(super) fn train(random: &mut Random) -> Vec<u8> {
         0 => return many(random),
         1 => return long(random),
         2 => return Vec::new(),
-        3..20 => return unions(random),
+        3 => return filling(random),
+        4..21 => return unions(random),
         _ => {}
     }
     let mut schema = source::schema(random);
@@ -30,9 +33,12 @@ pub(super) fn train(random: &mut Random) -> Vec<u8> {
     }
 }
 
-/// As many sheets as a train may have, a few more or less.
+/// Up to 300 sheets, as many as a train may have, a few more or less, as often as not.
 fn many(random: &mut Random) -> Vec<u8> {
-    let sheets = TRAIN_SHEETS - 2 + random.below(5);
+    let sheets = match random.once_in(2) {
+        true => TRAIN_SHEETS - 2 + random.below(5),
+        false => random.below(301),
+    };
     let schemas = [(); 4].map(|()| random::schema(random));
     let one = source::written(&schemas[0]);
     let mut bytes = Vec::new();
@@ -50,6 +56,30 @@ fn many(random: &mut Random) -> Vec<u8> {
 fn long(random: &mut Random) -> Vec<u8> {
     let sheets = [(); 2].map(|()| source::written(&source::large(random)));
     sheets.concat()
+}
+
+/// Two sheets whose merge has 65,535 bytes, a few less or a few more.
+fn filling(random: &mut Random) -> Vec<u8> {
+    let most = SHEET_BYTES - 4 + random.below(9);
+    let one = random::schema(random);
+    let other = vary::mergeable(random, &one);
+    let first = source::written(&with_column(
+        &one,
+        "n".repeat(20_000 + random.below(20_000)),
+    ));
+    let train = |bytes| {
+        let second = source::written(&with_column(&other, "m".repeat(bytes)));
+        [&first[..], &second].concat()
+    };
+    let shortest = operations::merge(&train(1)).map_or(most, |merged| merged.len());
+    train(1 + most.saturating_sub(shortest))
+}
+
+/// The schema with one more column, of this name.
+fn with_column(schema: &Schema, name: String) -> Schema {
+    let mut columns = schema.fields.to_vec();
+    columns.push(Field::new(name, DataType::Int8, false).into());
+    Schema::new_with_metadata(columns, schema.metadata.clone())
 }
 
 /// Sheets with a union each: few children, few ids, so that children and ids meet.
@@ -78,4 +108,26 @@ fn union(random: &mut Random) -> Schema {
         DataType::Union(children, mode),
         false,
     )])
+}
+
+#[cfg(test)]
+mod tests {
+    use super::*;
+    use oracle::read;
+
+    #[test]
+    fn trains_of_many_sheets_have_from_few_to_more_than_they_may() {
+        let mut random = Random::new(6);
+        let (mut few, mut past) = (0, 0);
+        for _ in 0..200 {
+            match read::train(&many(&mut random)) {
+                Ok(sheets) => few += usize::from(sheets.len() < 250),
+                Err(refusal) => {
+                    assert_eq!(refusal.number, 33);
+                    past += 1;
+                }
+            }
+        }
+        assert!(few > 40 && past > 40, "{few} {past}");
+    }
 }

@@ -1,9 +1,16 @@
-//! The fixed list that a run begins with: document 01's 'Run:' line and trials, and the
-//! readings' examples of reading and of verdicts, each with buffers exactly enough, one
-//! short and larger.
+//! The fixed list that a run begins with: document 01's 'Run:' line and trials, the readings'
+//! examples, and RFC 3629's published examples, each with buffers exactly enough, one short
+//! and larger.
+
+mod made;
+mod readings;
+mod texts;
 
 use crate::bench::{Bench, Difference};
 use crate::request::{Operation, Request, Takes};
+
+/// What a request takes beside its buffers: the first slice, the second, the number.
+type Inputs = (Vec<u8>, Vec<u8>, u16);
 
 /// Sheets, good and bad, in hex.
 const SHEETS: [&str; 39] = [
@@ -114,8 +121,17 @@ const TRAINS: [&str; 9] = [
     "02010004010076200200040100610204010061030201000401007620020004010061020401006103",
 ];
 
-/// The request with every sheet of the list, and the sheets that verdicts are asked of.
+/// The whole list for this operation.
 pub(crate) fn run(bench: &mut Bench, operation: Operation) -> Result<(), Box<Difference>> {
+    let examples = [readings::requests(operation), texts::requests(operation)];
+    for (first, second, number) in examples.into_iter().flatten() {
+        each(bench, operation, first, second, number)?;
+    }
+    trials(bench, operation)
+}
+
+/// The requests with every sheet of the list, and the sheets that verdicts are asked of.
+fn trials(bench: &mut Bench, operation: Operation) -> Result<(), Box<Difference>> {
     match operation.takes() {
         Takes::TwoSheets => {
             for first in sheets() {
