@@ -2,16 +2,17 @@
 use Prim.Native.Nat.{ℕ, _+_, _-_, _/_, _%_, _<_, _≤_}
 use native.Mathlib.Omega.{arith}
 use mathlib.Core.Path.{_≡_, refl, sym, ap, _∙_}
-use mathlib.Core.List.{[], _∷_, _++_}
+use mathlib.Core.List.{[], _∷_, _++_, append-assoc}
 use mathlib.Core.Bool.{Bool, true, false, _&&_, false≢true}
-use lib.ListN.{length, take, drop, getD}
+use lib.ListN.{length, take, drop, getD, length-append, take-append-drop}
 use lib.Dec.{eqb}
+use borrow.Author.Tests.{eq-eqb, ne-eqb}
 use Rattle.model.specs.Bytes.{Bytes, Metadata, choose, all, same, sameBytes, getIs, flag, u16}
 use Rattle.model.specs.Tree.{Head, Schema}
 use Rattle.model.specs.Sheet.{each, part, stands, withCount, textBytes, pairBytes, headBytes, sheetBytes}
 use Rattle.model.specs.Datatype.{containsMetadata}
-use Rattle.model.proofs.ByteStrings.{same-bytes-eq}
-use Rattle.model.proofs.SameBytes.{not-true}
+use Rattle.model.proofs.ByteStrings.{same-bytes-eq, same-bytes-refl}
+use Rattle.model.proofs.SameBytes.{by-truth, not-true, name-split}
 use Rattle.model.proofs.Lists.{every-unit}
 use Rattle.walk.specs.Stands.{Stands, Skips}
 use Rattle.walk.proofs.Standing.{first-stands, byte-stands, stands-behind, taken, skip-ahead, skip-join, skip-self}
@@ -94,6 +95,95 @@ module _ {s t : Bytes} {a b map other : ℕ} (e : map ≡ getD s a 0) (f : other
         go [] y m n w w′ = absurd (z m)
         go (d ∷ x) [] m n w w′ = absurd (z (i ∙ n))
         go (d ∷ x) (k ∷ y) m n w w′ = c (d ∷ x) (k ∷ y) (first-stands (textBytes (d ∷ x)) _ w) (first-stands (textBytes (k ∷ y)) _ w′)
+
+-- A name with its length, as a head has it
+
+-- what `name_of` gives
+abbrev pub NameOf : Bytes → ℕ → Bytes → Type 0
+NameOf s a r = (h : Head) → Stands s a (headBytes h) → r ≡ part textBytes (h .name)
+
+module _ {s : Bytes} {a map from end : ℕ} (e : map ≡ getD s a 0) (u : Ahead s a 1 from)
+    (p : (x : Bytes) → stands x ≡ eqb (map / 4 % 2) 1 → Skips s from (part textBytes x) end) where
+  name-ends : (h : Head) → Stands s a (headBytes h) → (end ≡ from + length (part textBytes (h .name))) × Stands s from (part textBytes (h .name))
+  name-ends h st =
+      let w = first-stands (part textBytes (h .name)) _ (rest-stands u h st) in
+      let b = ap (λ m. eqb (m / 4 % 2) 1) (map-is e h st) ∙ name-bit (h .nullable) (h .dictIsOrdered) (stands (h .name)) (stands (h .metadata)) in
+      (p (h .name) (sym b) .behind w, w)
+
+  pub name-before : {r : Bytes} → end < from → NameOf s a r
+  name-before k h st = absurd (omega (arith, k, name-ends h st .0))
+
+  pub name-past : {r : Bytes} → length s < end → NameOf s a r
+  name-past k h st = let (i, w) = name-ends h st in absurd (omega (arith, k, i, w .inside))
+
+  pub name-taken : NameOf s a (take (end - from) (drop from s))
+  name-taken h st = let (i, w) = name-ends h st in taken w i
+
+-- what `has_name` ensures
+abbrev pub HasName : Bytes → ℕ → Bytes → Bool → Type 0
+HasName s a name r = (h : Head) (n : Bytes) → Stands s a (headBytes h) → name ≡ part textBytes n → r ≡ sameBytes (h .name) n
+
+both-named : (bit : ℕ) (name : Bytes) → (length name ≡ 0 → ⊥) → (bit ≡ 0 → ⊥) → (x n : Bytes) → bit ≡ flag 1 (stands x) → name ≡ part textBytes n → stands x ≡ stands n
+both-named bit name k z [] n b i = absurd (z b)
+both-named bit name k z (c ∷ x) [] b i = absurd (k (ap length i))
+both-named bit name k z (c ∷ x) (d ∷ n) b i = refl
+
+module _ {s : Bytes} {a : ℕ} {name : Bytes} where
+  -- there is no room for the name
+  pub name-long : length s ≤ a + length name → HasName s a name false
+  unfolding headBytes
+  name-long k h n st i =
+      not-true _ λ j. omega (
+        arith,
+        k,
+        st .inside,
+        ap length i,
+        ap (λ z. length (part textBytes z)) (same-bytes-eq (h .name) n j),
+        length-append (part textBytes (h .name)) (part (withCount pairBytes) (h .metadata)),
+      )
+
+  module _ {map : ℕ} (e : map ≡ getD s a 0) where
+    pub name-empty : length name ≡ 0 → HasName s a name (eqb (map / 4 % 2) 0)
+    unfolding same textBytes u16
+    name-empty z h n st i = go (h .name) n (name-bit-is e h st) (ap length i)
+      where
+        go : (x n : Bytes) → map / 4 % 2 ≡ flag 1 (stands x) → length name ≡ length (part textBytes n) → eqb (map / 4 % 2) 0 ≡ sameBytes x n
+        go x (d ∷ n) b i = absurd (omega (arith, z, i))
+        go [] [] b i = eq-eqb (map / 4 % 2) 0 b
+        go (c ∷ x) [] b i = ne-eqb (map / 4 % 2) 0 λ j. omega (arith, j, b)
+
+    module _ (k : length name ≡ 0 → ⊥) where
+      pub name-missing : map / 4 % 2 ≡ 0 → HasName s a name false
+      unfolding same
+      name-missing z h n st i = go (h .name) n (name-bit-is e h st) i
+        where
+          go : (x n : Bytes) → map / 4 % 2 ≡ flag 1 (stands x) → name ≡ part textBytes n → false ≡ sameBytes x n
+          go [] [] b i = absurd (k (ap length i))
+          go [] (d ∷ n) b i = refl
+          go (c ∷ x) n b i = absurd (omega (arith, z, b))
+
+      -- the name and what follows it begin with the other name just if the two are equal
+      pub name-compared : (end : ℕ) {r : Bool} → (map / 4 % 2 ≡ 0 → ⊥) → a + 1 + length name ≡ end → end ≤ length s → r ≡ sameBytes (take (end - (a + 1)) (drop (a + 1) s)) name → HasName s a name r
+      name-compared end {r} z j l v h n st i = v ∙ by-truth (sameBytes T name) (sameBytes (h .name) n) there back
+        where
+          T : Bytes
+          T = take (end - (a + 1)) (drop (a + 1) s)
+
+          rest : Stands s (a + 1) (restOf h)
+          rest = rest-stands (omega arith, λ y. refl) h st
+
+          there : sameBytes T name ≡ true → sameBytes (h .name) n ≡ true
+          there q =
+              let split = name-split (h .name) n _ (drop (end - (a + 1)) (drop (a + 1) s)) (both-named (map / 4 % 2) name k z (h .name) n (name-bit-is e h st) i)
+              (sym (append-assoc (part textBytes (h .name)) _ _) ∙ sym (rest .bytes) ∙ sym (take-append-drop (end - (a + 1)) (drop (a + 1) s))
+              ∙ ap (λ z. z ++ drop (end - (a + 1)) (drop (a + 1) s)) (same-bytes-eq T name q ∙ i)) in
+              ap (λ z. sameBytes z n) (split .0) ∙ same-bytes-refl n
+
+          back : sameBytes (h .name) n ≡ true → sameBytes T name ≡ true
+          back q =
+              let o : name ≡ part textBytes (h .name) = i ∙ ap (part textBytes) (sym (same-bytes-eq (h .name) n q)) in
+              let w = first-stands (part textBytes (h .name)) _ rest in
+              ap (λ z. sameBytes z name) (taken w (sym j ∙ ap (λ z. a + 1 + length z) o) ∙ sym o) ∙ same-bytes-refl name
 
 -- Metadata under a bit
 

@@ -65,6 +65,44 @@ pub fn same_name(s: &[u8], a: usize, t: &[u8], b: usize) -> bool
     same_text(s, walk::ahead(s, a, 1), t, walk::ahead(t, b, 1))
 }
 
+// The name of a field as its head has it, the length before it. Nothing for an empty name, which is not written.
+pub fn name_of<'a>(s: &'a [u8], at: usize) -> &'a [u8]
+    ensures { λ r. ⌜ ((h : Head) → Stands (now (s .entry)) at (headBytes h) → now r ≡ part textBytes (h .name)) ⌝ }
+{
+    let map = walk::byte(s, at);
+    let from = walk::ahead(s, at, 1);
+    let end = walk::skip_text_if(s, from, map / 4 % 2 == 1);
+    if end < from {
+        return &s[0..0];
+    }
+    if s.len() < end {
+        return &s[0..0];
+    }
+    &s[from..end]
+}
+
+// Whether a field has a name, which is given as `name_of` gives one. So one name can be compared with many; since the length is compared
+// as the first bytes of it, the field's own is not read.
+pub fn has_name(s: &[u8], at: usize, name: &[u8]) -> bool
+    ensures { λ r. ⌜ ((h : Head) (n : Bytes) → Stands (now (s .entry)) at (headBytes h) → now (name .entry) ≡ part textBytes n → r ≡ sameBytes (h .name) n) ⌝ }
+{
+    if s.len() <= at {
+        return false;
+    }
+    if s.len() - at <= name.len() {
+        return false;
+    }
+    let bit = walk::byte(s, at) / 4 % 2;
+    if name.len() == 0 {
+        return bit == 0;
+    }
+    if bit == 0 {
+        return false;
+    }
+    let from = at + 1;
+    text::same(&s[from..from + name.len()], name)
+}
+
 // `Metadata::get(key).is_some_and(|v| v == value)`, for the key and the value that stand at a place: the first pair with that key decides.
 pub fn get_is(s: &[u8], at: usize, count: usize, t: &[u8], key: usize) -> bool
     ensures { λ r. ⌜ ((p : Bytes × Bytes) (m : Metadata) → length m ≡ count → Stands (now (t .entry)) key (pairBytes p) → Stands (now (s .entry)) at (each pairBytes m) → r ≡ getIs m (p .0) (p .1)) ⌝ }

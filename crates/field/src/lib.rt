@@ -220,7 +220,7 @@ fn put(
     match found {
         Found::At(place) => {
             let merged = merge_field(s, w, used, place, q, levels);
-            let next = table::skip_entry(&w[..], place, levels);
+            let next = table::next_entry(&w[..], place, levels);
             Placed { merged, next }
         }
         Found::Absent(end) => {

@@ -1,4 +1,4 @@
--- The kinds of parameters and of children in the table of the types, numbered, so that the code holds them as two short tables.
+-- The kinds of parameters and of children in the table of the types, numbered, so that the code gives them by two short matches.
 use Prim.Native.Nat.{ℕ}
 use mathlib.Core.List.{[], _∷_}
 use lib.ListN.{getD}

@@ -4,112 +4,43 @@ ghost use mathlib.Core.Path.{_≡_};
 ghost use Rattle.model.specs.Tree.{layout};
 ghost use Rattle.layout.specs.Kinds.{paramsBy, childrenBy};
 
-// What parameters follow a code: see `paramsBy`.
-const PARAMS: [u8; 41] = [
-    0,
-    0,
-    0,
-    0,
-    0,
-    0,
-    0,
-    0,
-    0,
-    0,
-    0,
-    0,
-    0,
-    1,
-    0,
-    0,
-    2,
-    2,
-    2,
-    3,
-    0,
-    4,
-    0,
-    0,
-    0,
-    0,
-    0,
-    0,
-    0,
-    4,
-    0,
-    0,
-    0,
-    5,
-    0,
-    6,
-    6,
-    6,
-    6,
-    5,
-    0,
-];
-
-// What children follow a code's parameters: see `childrenBy`.
-const CHILDREN: [u8; 41] = [
-    0,
-    0,
-    0,
-    0,
-    0,
-    0,
-    0,
-    0,
-    0,
-    0,
-    0,
-    0,
-    0,
-    0,
-    0,
-    0,
-    0,
-    0,
-    0,
-    0,
-    0,
-    0,
-    0,
-    0,
-    0,
-    0,
-    0,
-    1,
-    1,
-    1,
-    1,
-    1,
-    4,
-    5,
-    3,
-    0,
-    0,
-    0,
-    0,
-    1,
-    2,
-];
-
-// What parameters the type of a code has; none past the table.
+// What parameters the type of a code has, by the numbers of `paramsBy`; none past the table. A match and no table: a table would be laid
+// out anew at each call.
 pub fn params_kind(code: usize) -> u8
     ensures { λ r. ⌜ paramsBy r ≡ layout code .params ⌝ }
 {
-    if 41 <= code {
-        return 0;
+    match code {
+        0..=12 => 0,
+        13 => 1,
+        14..=15 => 0,
+        16..=18 => 2,
+        19 => 3,
+        20 => 0,
+        21 => 4,
+        22..=28 => 0,
+        29 => 4,
+        30..=32 => 0,
+        33 => 5,
+        34 => 0,
+        35..=38 => 6,
+        39 => 5,
+        _ => 0,
     }
-    PARAMS[code]
 }
 
-// What children the type of a code has; none past the table.
+// What children the type of a code has, by the numbers of `childrenBy`; none past the table.
 pub fn children_kind(code: usize) -> u8
     ensures { λ r. ⌜ childrenBy r ≡ layout code .children ⌝ }
 {
-    if 41 <= code {
-        return 0;
+    match code {
+        0..=26 => 0,
+        27..=31 => 1,
+        32 => 4,
+        33 => 5,
+        34 => 3,
+        35..=38 => 0,
+        39 => 1,
+        40 => 2,
+        _ => 0,
     }
-    CHILDREN[code]
 }

@@ -160,6 +160,17 @@ module _ {w : Bytes} {place : ℕ} (levels : ℕ) where
     types-union {r} h₀ h₁ h₂ z (suc l) s first k y t i (spellUnion x m ys b q g c p n v u) =
         this-kind openUnion x ys b (subst (λ y. Skips w inner y r) (sym (n .bytes)) (z (n .places) (refer-small (n .refer))))
 
+-- past the end none stands
+pub past-entry : {w : Bytes} {place : ℕ} (levels r : ℕ) → length w ≤ place → SkipsEntries w place levels r
+past-entry levels r h l s k y f j p = record { behind = λ st. absurd (omega (arith, h, st .inside, ap length (p .bytes))) }
+
+-- an entry without metadata of its own, whose type is raw
+pub plain-entry : {w : Bytes} {place : ℕ} (levels : ℕ) → getD w place 0 < 2 → getD w (place + 4) 0 ≡ raw → place + 8 ≤ length w → SkipsEntries w place levels (place + 8)
+plain-entry {w} {place} levels h z i l s k y f j p =
+    let m : SkipsMetadata w (place + 4) (getD w place 0) (place + 4) = (λ n. refl, λ ps n g. absurd (omega (arith, h, n))) in
+    let next : place + 4 + 4 ≡ place + 8 = omega arith in
+    entry-skips (head-skips refl (omega arith, λ n. refl) m) (λ o r v t q. types-raw levels refl (omega arith, λ n. sym next) z l s o r v t j q) p
+
 -- Rows of entries
 
 -- the bytes of an entry of so many levels

@@ -7,7 +7,7 @@ use mathlib.Core.Bool.{Bool, true, false, false≢true}
 use lib.ListN.{length, getD, length-append}
 use Rattle.model.specs.Bytes.{Bytes, Every, sameBytes}
 use Rattle.model.specs.Tree.{Head, Field}
-use Rattle.model.specs.Sheet.{headBytes}
+use Rattle.model.specs.Sheet.{part, textBytes, headBytes}
 use Rattle.model.proofs.Lists.{every-append}
 use Rattle.walk.specs.Stands.{Stands, Skips}
 use Rattle.walk.proofs.Standing.{first-stands, second-stands, byte-stands, stands-behind, skip-ahead}
@@ -19,14 +19,14 @@ use Rattle.table.specs.declared.Found.{Found}
 use Rattle.table.proofs.Numbers.{three-stands}
 use Rattle.table.proofs.Entries.{SkipsEntries}
 
--- what `same_name` of two fields of the train ensures
-abbrev SameName : Bytes → ℕ → ℕ → Bool → Type 0
-SameName s a b r = (h g : Head) → Stands s a (headBytes h) → Stands s b (headBytes g) → r ≡ sameBytes (h .name) (g .name)
+-- what `has_name` of a field of the train ensures
+abbrev HasName : Bytes → ℕ → Bytes → Bool → Type 0
+HasName s a name r = (h : Head) (n : Bytes) → Stands s a (headBytes h) → name ≡ part textBytes n → r ≡ sameBytes (h .name) n
 
 -- what `is_named` ensures
-abbrev pub Named : Bytes → Bytes → ℕ → ℕ → Bool → Type 0
-Named s w place q r =
-    ((l k : ℕ) (y : Bytes) (f : Field l) (g : Head) → SpellField l s k y f → Stands w place y → Stands s q (headBytes g) → r ≡ sameBytes (f .head .name) (g .name))
+abbrev pub Named : Bytes → Bytes → ℕ → Bytes → Bool → Type 0
+Named s w place name r =
+    ((l k : ℕ) (y : Bytes) (f : Field l) (n : Bytes) → SpellField l s k y f → Stands w place y → name ≡ part textBytes n → r ≡ sameBytes (f .head .name) n)
     × (getD w place 0 ≡ noEntry → r ≡ false)
 
 module _ {s w : Bytes} {place : ℕ} where
@@ -34,19 +34,19 @@ module _ {s w : Bytes} {place : ℕ} where
   flags-stand : (l : ℕ) {k : ℕ} {y : Bytes} {f : Field l} (e : SpellField l s k y f) → Stands w place y → getD w place 0 ≡ e .flags
   flags-stand l e st = byte-stands (subst (Stands w place) (e .bytes) st)
 
-  module _ {q n : ℕ} (i : n ≡ getD w place 0) where
-    pub named-none : n ≡ noEntry → Named s w place q false
-    named-none h = (λ l k y f g e st u. absurd (omega (arith, e .smallFlags, h, i, flags-stand l e st)), λ j. refl)
+  module _ {name : Bytes} {b : ℕ} (i : b ≡ getD w place 0) where
+    pub named-none : b ≡ noEntry → Named s w place name false
+    named-none h = (λ l k y f n e st u. absurd (omega (arith, e .smallFlags, h, i, flags-stand l e st)), λ j. refl)
 
-    pub named-entry : {m t : ℕ} {r : Bool} → (n ≡ noEntry → ⊥) → Ahead w place 1 m → t ≡ three w m → SameName s t q r → Named s w place q r
+    pub named-entry : {m t : ℕ} {r : Bool} → (b ≡ noEntry → ⊥) → Ahead w place 1 m → t ≡ three w m → HasName s t name r → Named s w place name r
     named-entry {m} {t} {r} never a j h = (go, λ z. absurd (never (i ∙ z)))
       where
-        go : (l k : ℕ) (y : Bytes) (f : Field l) (g : Head) → SpellField l s k y f → Stands w place y → Stands s q (headBytes g) → r ≡ sameBytes (f .head .name) (g .name)
-        go l k y f g e st u =
+        go : (l k : ℕ) (y : Bytes) (f : Field l) (n : Bytes) → SpellField l s k y f → Stands w place y → name ≡ part textBytes n → r ≡ sameBytes (f .head .name) n
+        go l k y f n e st u =
             let st2 = stands-behind (skip-ahead (e .flags ∷ []) refl (a .1)) (subst (Stands w place) (e .bytes) st) in
             let first : t ≡ e .first = j ∙ three-stands (e .first) _ (omega (arith, e .small)) st2 in
-            h (e .own .head) g (subst (λ p. Stands s p (headBytes (e .own .head))) (sym first) (head-stands l (e .own) (e .stands))) u
-            ∙ ap (λ n. sameBytes n (g .name)) (e .name)
+            h (e .own .head) n (subst (λ p. Stands s p (headBytes (e .own .head))) (sym first) (head-stands l (e .own) (e .stands))) u
+            ∙ ap (λ z. sameBytes z n) (e .name)
 
 -- Rows
 
@@ -177,9 +177,9 @@ pub record Passed (l : ℕ) (s : Bytes) (row k : ℕ) (y : Bytes) (fs : List (Fi
   pub cut : Cut l s row k y fs place
   pub others : Every (λ f. sameBytes (f .head .name) name ≡ false) (cut .before)
 
-pub record Scan (s w : Bytes) (row q levels place : ℕ) : Type 0 where
-  pub passed : (l k : ℕ) (y : Bytes) (fs : List (Field l)) (g : Head) → l ≤ levels → SpellRow l s k y fs → Stands w row y → Stands s q (headBytes g)
-      → Passed l s row k y fs (g .name) place
+pub record Scan (s w : Bytes) (row : ℕ) (name : Bytes) (levels place : ℕ) : Type 0 where
+  pub passed : (l k : ℕ) (y : Bytes) (fs : List (Field l)) (n : Bytes) → l ≤ levels → SpellRow l s k y fs → Stands w row y → name ≡ part textBytes n
+      → Passed l s row k y fs n place
 
 abbrev pub row-begin : {l : ℕ} {s : Bytes} {row k : ℕ} {y : Bytes} {fs : List (Field l)} → SpellRow l s k y fs → Cut l s row k y fs row
 row-begin {l} {s} {row} {k} {y} {fs} p = record {
@@ -197,29 +197,29 @@ row-begin {l} {s} {row} {k} {y} {fs} p = record {
   room = omega (arith, p .room);
 }
 
--- what `scan` and `find` ensure of a row
-abbrev pub FindsIn : Bytes → Bytes → ℕ → ℕ → ℕ → Found → Type 0
-FindsIn s w row q levels r =
-    (l k : ℕ) (y : Bytes) (fs : List (Field l)) (g : Head) → l ≤ levels → SpellRow l s k y fs → Stands w row y → Stands s q (headBytes g) → Finds l s row k y fs (g .name) r
+-- what `scan` ensures of a row
+abbrev pub FindsIn : Bytes → Bytes → ℕ → Bytes → ℕ → Found → Type 0
+FindsIn s w row name levels r =
+    (l k : ℕ) (y : Bytes) (fs : List (Field l)) (n : Bytes) → l ≤ levels → SpellRow l s k y fs → Stands w row y → name ≡ part textBytes n → Finds l s row k y fs n r
 
-module _ {s w : Bytes} (row q levels : ℕ) where
-  pub scan-begin : Scan s w row q levels row
-  scan-begin = record { passed = λ l k y fs g h p st u. record { cut = row-begin p; others = tt } }
+module _ {s w : Bytes} (row : ℕ) (name : Bytes) (levels : ℕ) where
+  pub scan-begin : Scan s w row name levels row
+  scan-begin = record { passed = λ l k y fs n h p st u. record { cut = row-begin p; others = tt } }
 
-  module _ {place : ℕ} (c : Scan s w row q levels place) where
+  module _ {place : ℕ} (c : Scan s w row name levels place) where
     -- past the buffer's end no row ends
-    pub scan-out : length w ≤ place → FindsIn s w row q levels (Found.Absent place)
-    scan-out h l k y fs g i p st u =
-        let v = after-stands (c .passed l k y fs g i p st u .cut) st in
-        absurd (omega (arith, v .inside, h, length-append (c .passed l k y fs g i p st u .cut .afterBytes) (noEntry ∷ [])))
+    pub scan-out : length w ≤ place → FindsIn s w row name levels (Found.Absent place)
+    scan-out h l k y fs n i p st u =
+        let v = after-stands (c .passed l k y fs n i p st u .cut) st in
+        absurd (omega (arith, v .inside, h, length-append (c .passed l k y fs n i p st u .cut .afterBytes) (noEntry ∷ [])))
 
-    module _ {n : ℕ} (e : n ≡ getD w place 0) where
-      pub scan-absent : n ≡ noEntry → FindsIn s w row q levels (Found.Absent place)
-      scan-absent h l k y fs g i p st u =
-          let d = c .passed l k y fs g i p st u in
-          let z = end-here (g .name) (d .cut) st (sym e ∙ h) in
+    module _ {byte : ℕ} (e : byte ≡ getD w place 0) where
+      pub scan-absent : byte ≡ noEntry → FindsIn s w row name levels (Found.Absent place)
+      scan-absent h l k y fs n i p st u =
+          let d = c .passed l k y fs n i p st u in
+          let z = end-here n (d .cut) st (sym e ∙ h) in
           record {
-            others = subst (Every (λ f. sameBytes (f .head .name) (g .name) ≡ false)) (sym (d .cut .fields ∙ ap (λ z. d .cut .before ++ z) z ∙ append-nil (d .cut .before))) (d .others);
+            others = subst (Every (λ f. sameBytes (f .head .name) n ≡ false)) (sym (d .cut .fields ∙ ap (λ z. d .cut .before ++ z) z ∙ append-nil (d .cut .before))) (d .others);
             end = at-end (d .cut) z;
           }
         where
@@ -234,43 +234,43 @@ module _ {s w : Bytes} (row q levels : ℕ) where
                 rows-none (d .rowAfter) z,
               )
 
-      module _ (never : n ≡ noEntry → ⊥) where
-        here : (l k : ℕ) (y : Bytes) (fs : List (Field l)) (g : Head) → l ≤ levels → (p : SpellRow l s k y fs) (st : Stands w row y) (u : Stands s q (headBytes g))
-            → (d : Passed l s row k y fs (g .name) place) → Next (g .name) (d .cut) st
-        here l k y fs g i p st u d = next-entry (g .name) (d .cut) st λ z. never (e ∙ z)
+      module _ (never : byte ≡ noEntry → ⊥) where
+        here : (l k : ℕ) (y : Bytes) (fs : List (Field l)) (n : Bytes) → l ≤ levels → (p : SpellRow l s k y fs) (st : Stands w row y) (u : name ≡ part textBytes n)
+            → (d : Passed l s row k y fs n place) → Next n (d .cut) st
+        here l k y fs n i p st u d = next-entry n (d .cut) st λ z. never (e ∙ z)
 
         -- an entry is not empty
-        pub scan-stuck : {m : ℕ} → SkipsEntries w place levels m → m ≤ place → FindsIn s w row q levels (Found.Absent place)
-        scan-stuck {m} f h l k y fs g i p st u =
-            let d = c .passed l k y fs g i p st u in
-            let x = here l k y fs g i p st u d in
+        pub scan-stuck : {m : ℕ} → SkipsEntries w place levels m → m ≤ place → FindsIn s w row name levels (Found.Absent place)
+        scan-stuck {m} f h l k y fs n i p st u =
+            let d = c .passed l k y fs n i p st u in
+            let x = here l k y fs n i p st u d in
             absurd (omega (arith, h, f l s (x .thisRoom) (x .thisBytes) (x .this) i (x .spelt) .behind (first-stands (x .thisBytes) _ (x .stands)), ap length (x .spelt .bytes)))
 
-        module _ {b : Bool} (v : Named s w place q b) where
-          verdict : {l k : ℕ} {y : Bytes} {fs : List (Field l)} (g : Head) (d : Cut l s row k y fs place) (st : Stands w row y) (x : Next (g .name) d st) → Stands s q (headBytes g)
-              → b ≡ sameBytes (x .this .head .name) (g .name)
-          verdict {l} g d st x u = v .0 l (x .thisRoom) (x .thisBytes) (x .this) g (x .spelt) (first-stands (x .thisBytes) _ (x .stands)) u
+        module _ {b : Bool} (v : Named s w place name b) where
+          verdict : {l k : ℕ} {y : Bytes} {fs : List (Field l)} (n : Bytes) (d : Cut l s row k y fs place) (st : Stands w row y) (x : Next n d st) → name ≡ part textBytes n
+              → b ≡ sameBytes (x .this .head .name) n
+          verdict {l} n d st x u = v .0 l (x .thisRoom) (x .thisBytes) (x .this) n (x .spelt) (first-stands (x .thisBytes) _ (x .stands)) u
 
-          pub scan-found : b ≡ true → FindsIn s w row q levels (Found.At place)
-          scan-found h l k y fs g i p st u =
-              let d = c .passed l k y fs g i p st u in
-              let x = here l k y fs g i p st u d in
-              found-here (g .name) (d .cut) st x (sym (verdict g (d .cut) st x u) ∙ h)
+          pub scan-found : b ≡ true → FindsIn s w row name levels (Found.At place)
+          scan-found h l k y fs n i p st u =
+              let d = c .passed l k y fs n i p st u in
+              let x = here l k y fs n i p st u d in
+              found-here n (d .cut) st x (sym (verdict n (d .cut) st x u) ∙ h)
 
-          pub scan-again : {m : ℕ} → b ≡ false → SkipsEntries w place levels m → Scan s w row q levels m
+          pub scan-again : {m : ℕ} → b ≡ false → SkipsEntries w place levels m → Scan s w row name levels m
           scan-again {m} h f = record {
-            passed = λ l k y fs g i p st u.
-                let d = c .passed l k y fs g i p st u in
-                let x = here l k y fs g i p st u d in
+            passed = λ l k y fs n i p st u.
+                let d = c .passed l k y fs n i p st u in
+                let x = here l k y fs n i p st u d in
                 record {
-                  cut = cut-behind (g .name) (d .cut) st x (f l s (x .thisRoom) (x .thisBytes) (x .this) i (x .spelt));
-                  others = every-append (λ f. sameBytes (f .head .name) (g .name) ≡ false) (d .cut .before) (x .this ∷ []) (d .others) (sym (verdict g (d .cut) st x u) ∙ h, tt);
+                  cut = cut-behind n (d .cut) st x (f l s (x .thisRoom) (x .thisBytes) (x .this) i (x .spelt));
+                  others = every-append (λ f. sameBytes (f .head .name) n ≡ false) (d .cut .before) (x .this ∷ []) (d .others) (sym (verdict n (d .cut) st x u) ∙ h, tt);
                 };
           }
 
 -- the entry at the hint
-pub hint-found : {s w : Bytes} {row q hint : ℕ} {b : Bool} → b ≡ true → Named s w hint q b → {l k : ℕ} {y : Bytes} {fs : List (Field l)} (g : Head) → Stands w row y → Stands s q (headBytes g) → Cut l s row k y fs hint
-    → FoundAt l s row k y fs (g .name) hint
-hint-found e v {l} g st u d =
-    let x = next-entry (g .name) d st λ z. false≢true (sym (v .1 z) ∙ e) in
-    found-here (g .name) d st x (sym (sym e ∙ v .0 l (x .thisRoom) (x .thisBytes) (x .this) g (x .spelt) (first-stands (x .thisBytes) _ (x .stands)) u))
+pub hint-found : {s w : Bytes} {row hint : ℕ} {name : Bytes} {b : Bool} → b ≡ true → Named s w hint name b → {l k : ℕ} {y : Bytes} {fs : List (Field l)} (n : Bytes) → Stands w row y → name ≡ part textBytes n
+    → Cut l s row k y fs hint → FoundAt l s row k y fs n hint
+hint-found e v {l} n st u d =
+    let x = next-entry n d st λ z. false≢true (sym (v .1 z) ∙ e) in
+    found-here n d st x (sym (sym e ∙ v .0 l (x .thisRoom) (x .thisBytes) (x .this) n (x .spelt) (first-stands (x .thisBytes) _ (x .stands)) u))

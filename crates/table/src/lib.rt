@@ -1,7 +1,8 @@
 // The schema merged so far, as a table in the work buffer: reading it, editing it in place, and looking up a name. Document 01, "What must
 // change shape": "`Arc`, `Vec`, `Box` trees: work on sheet bytes with a cursor, or node tables in arrays." What the bytes mean is in
 // specs/Table.antt. The functions take any bytes and any places; where the parts that they are for stand there, they do what they say.
-use datatype::metadata::same_name;
+use datatype::metadata::has_name;
+use datatype::metadata::name_of;
 ghost use mathlib.Core.Path.{_≡_};
 ghost use mathlib.Core.List.{List, [], _∷_, _++_};
 ghost use Prim.Native.Nat.{ℕ, suc, _+_, _*_, _/_, _%_, _≤_, _<_};
@@ -10,7 +11,7 @@ ghost use mathlib.Core.Bool.{false, _||_};
 ghost use lib.Dec.{eqb};
 ghost use Rattle.model.specs.Bytes.{Bytes, Every, sameBytes, flag};
 ghost use Rattle.model.specs.Tree.{Head, DataType, Field};
-ghost use Rattle.model.specs.Sheet.{headBytes};
+ghost use Rattle.model.specs.Sheet.{part, textBytes, headBytes};
 ghost use Rattle.buffer.specs.Buffer.{pasted};
 ghost use Rattle.walk.specs.Stands.{Stands, Skips};
 ghost use Rattle.table.specs.Held.{Held};
@@ -27,14 +28,24 @@ pub enum Merged {
     Clash(u8),
 }
 
-// The number of three bytes at a place, the lowest first.
+// A byte as a number of places.
+fn wide(x: u8) -> usize
+    ensures { λ r. ⌜ (r ≡ x) × (r < 256) ⌝ }
+{
+    x as usize
+}
+
+// The number of three bytes at a place, the lowest first. Bytes past the end are 0.
 pub fn three(w: &[u8], at: usize) -> usize
     ensures { λ r. ⌜ (r ≡ three (now (w .entry)) at) × (r < 16777216) ⌝ }
 {
     if w.len() <= at {
         return 0;
     }
-    walk::two(w, at) + 65536 * walk::byte(w, at + 2)
+    if w.len() - at < 3 {
+        return walk::two(w, at);
+    }
+    wide(w[at]) + 256 * wide(w[at + 1]) + 65536 * wide(w[at + 2])
 }
 
 // What stands behind the last place of a row of places, and behind the last entry of a row of entries.
@@ -120,14 +131,34 @@ pub fn skip_row(w: &[u8], at: usize, levels: usize) -> usize
     place
 }
 
-// Whether an entry stands at a place of the table, and has the name of a field of the train.
-fn is_named(s: &[u8], w: &[u8], at: usize, q: usize) -> bool
-    ensures { λ r. ⌜ ((l : ℕ) (k : ℕ) (y : Bytes) (f : Field l) (g : Head) → SpellField l (now (s .entry)) k y f → Stands (now (w .entry)) at y → Stands (now (s .entry)) q (headBytes g) → r ≡ sameBytes (f .head .name) (g .name)) × (getD (now (w .entry)) at 0 ≡ noEntry → r ≡ false) ⌝ }
+// An entry of at most so many levels, as `skip_entry` has it. Most entries have no metadata of their own and a type in which nothing was
+// merged: eight bytes.
+pub fn next_entry(w: &[u8], at: usize, levels: usize) -> usize
+    ensures { λ r. ⌜ ((l : ℕ) (s : Bytes) (k : ℕ) (y : Bytes) (f : Field l) → l ≤ levels → SpellField l s k y f → Skips (now (w .entry)) at y r) ⌝ }
+{
+    if w.len() <= at {
+        return at;
+    }
+    if w.len() - at < 8 {
+        return skip_entry(w, at, levels);
+    }
+    if 2 <= w[at] {
+        return skip_entry(w, at, levels);
+    }
+    if w[at + 4] != 0 {
+        return skip_entry(w, at, levels);
+    }
+    at + 8
+}
+
+// Whether an entry stands at a place of the table and has a name, which is given as `name_of` gives one.
+fn is_named(s: &[u8], w: &[u8], at: usize, name: &[u8]) -> bool
+    ensures { λ r. ⌜ ((l : ℕ) (k : ℕ) (y : Bytes) (f : Field l) (n : Bytes) → SpellField l (now (s .entry)) k y f → Stands (now (w .entry)) at y → now (name .entry) ≡ part textBytes n → r ≡ sameBytes (f .head .name) n) × (getD (now (w .entry)) at 0 ≡ noEntry → r ≡ false) ⌝ }
 {
     if walk::byte(w, at) == NO_ENTRY {
         return false;
     }
-    same_name(s, three(w, walk::ahead(w, at, 1)), s, q)
+    has_name(s, three(w, walk::ahead(w, at, 1)), name)
 }
 
 // The place of the entry of a name in a row, or that of the row's end.
@@ -137,18 +168,18 @@ pub enum Found {
 }
 
 // The entry of a name, from a row's front on.
-fn scan(s: &[u8], w: &[u8], row: usize, q: usize, levels: usize) -> Found
-    ensures { λ r. ⌜ ((l k : ℕ) (y : Bytes) (fs : List (Field l)) (g : Head) → l ≤ levels → SpellRow l (now (s .entry)) k y fs → Stands (now (w .entry)) row y → Stands (now (s .entry)) q (headBytes g) → Finds l (now (s .entry)) row k y fs (g .name) r) ⌝ }
+fn scan(s: &[u8], w: &[u8], row: usize, name: &[u8], levels: usize) -> Found
+    ensures { λ r. ⌜ ((l k : ℕ) (y : Bytes) (fs : List (Field l)) (n : Bytes) → l ≤ levels → SpellRow l (now (s .entry)) k y fs → Stands (now (w .entry)) row y → now (name .entry) ≡ part textBytes n → Finds l (now (s .entry)) row k y fs n r) ⌝ }
 {
     let mut place = row;
     while place < w.len() {
         if walk::byte(w, place) == NO_ENTRY {
             return Found::Absent(place);
         }
-        if is_named(s, w, place, q) {
+        if is_named(s, w, place, name) {
             return Found::At(place);
         }
-        let next = skip_entry(w, place, levels);
+        let next = next_entry(w, place, levels);
         if next <= place {
             return Found::Absent(place);
         }
@@ -157,15 +188,16 @@ fn scan(s: &[u8], w: &[u8], row: usize, q: usize, levels: usize) -> Found
     Found::Absent(place)
 }
 
-// The look-up of the merge: `SchemaBuilder::try_merge` looks for the first field of a name; no two entries of a row have one, so any is the first. Names that come in
-// the order of the row are found at the hint, the place behind the entry that was found last.
+// The look-up of the merge: `SchemaBuilder::try_merge` looks for the first field of a name; no two entries of a row have one, so any is the
+// first. Names that come in the order of the row are found at the hint, the place behind the entry that was found last.
 pub fn find(s: &[u8], w: &[u8], row: usize, hint: usize, q: usize, levels: usize) -> Found
     ensures { λ r. ⌜ ((l k : ℕ) (y : Bytes) (fs : List (Field l)) (g : Head) → l ≤ levels → SpellRow l (now (s .entry)) k y fs → Stands (now (w .entry)) row y → Stands (now (s .entry)) q (headBytes g) → Cut l (now (s .entry)) row k y fs hint → Finds l (now (s .entry)) row k y fs (g .name) r) ⌝ }
 {
-    if is_named(s, w, hint, q) {
+    let name = name_of(s, q);
+    if is_named(s, w, hint, name) {
         return Found::At(hint);
     }
-    scan(s, w, row, q, levels)
+    scan(s, w, row, name, levels)
 }
 
 // Writes bytes over as many that stand at a place.

@@ -2,9 +2,9 @@
 // and order of byte strings. The Rust has these from `String`, and from the `BTreeMap<String, String>` of metadata.rs.
 // Look-up of a key is not here yet: it walks a sheet.
 ghost use mathlib.Core.Path.{_≡_};
-ghost use Prim.Native.Nat.{max};
-ghost use lib.ListN.{drop};
-ghost use Rattle.model.specs.Bytes.{all, sameBytes, below};
+ghost use Prim.Native.Nat.{_+_, _≤_, _<_, max};
+ghost use lib.ListN.{length, take, drop};
+ghost use Rattle.model.specs.Bytes.{num, all, sameBytes, below};
 ghost use Rattle.model.specs.Text.{inside, rows, rowOf, utf8};
 ghost use Rattle.text.specs.Text.{textOf, rangesOf, meets, ascii};
 
@@ -105,19 +105,64 @@ pub fn check(p: &[u8]) -> Text
     Text::Valid
 }
 
-// Whether two byte strings are equal. Names are compared by this function alone.
+// A byte as a number of eight bytes.
+fn wide(x: u8) -> u64
+    ensures { λ r. ⌜ (r ≡ x) × (r < 256) ⌝ }
+{
+    x as u64
+}
+
+// The number of the eight bytes at a place, the lowest first. The sum compiles to one load.
+fn word(s: &[u8], i: usize) -> u64
+    requires { ⌜ i + 8 ≤ length (now s) ⌝ }
+    ensures { λ r. ⌜ r ≡ num (take 8 (drop i (now (s .entry)))) ⌝ }
+{
+    wide(s[i])
+        + 256 * wide(s[i + 1])
+        + 65536 * wide(s[i + 2])
+        + 16777216 * wide(s[i + 3])
+        + 4294967296 * wide(s[i + 4])
+        + 1099511627776 * wide(s[i + 5])
+        + 281474976710656 * wide(s[i + 6])
+        + 72057594037927936 * wide(s[i + 7])
+}
+
+// Whether two byte strings of one length are equal, byte by byte. From the end, since names that differ often begin alike.
+fn same_short(a: &[u8], b: &[u8]) -> bool
+    requires { ⌜ length (now a) ≡ length (now b) ⌝ }
+    ensures { λ r. ⌜ r ≡ sameBytes (now (a .entry)) (now (b .entry)) ⌝ }
+{
+    let mut i = a.len();
+    while 0 < i {
+        i -= 1;
+        if a[i] != b[i] {
+            return false;
+        }
+    }
+    true
+}
+
+// Whether two byte strings are equal. Names are compared by this function alone. Eight bytes at a time and the last eight first; the others
+// from the front on, up to where these begin.
 pub fn same(a: &[u8], b: &[u8]) -> bool
     ensures { λ r. ⌜ r ≡ sameBytes (now (a .entry)) (now (b .entry)) ⌝ }
 {
     if a.len() != b.len() {
         return false;
     }
+    if a.len() < 8 {
+        return same_short(a, b);
+    }
+    let last = a.len() - 8;
+    if word(a, last) != word(b, last) {
+        return false;
+    }
     let mut i = 0;
-    while i < a.len() {
-        if a[i] != b[i] {
+    while i < last {
+        if word(a, i) != word(b, i) {
             return false;
         }
-        i += 1;
+        i += 8;
     }
     true
 }

@@ -50,7 +50,7 @@ use Rattle.table.proofs.find.Reads as find-reads
 use Rattle.table.proofs.insert_entry.Reads as insert-entry-reads
 use Rattle.table.proofs.open_list.Reads as open-list-reads
 use Rattle.table.proofs.open_struct.Reads as open-struct-reads
-use Rattle.table.proofs.skip_entry.Reads as skip-entry-reads
+use Rattle.table.proofs.next_entry.Reads as next-entry-reads
 use Rattle.table.proofs.skip_head.Reads as skip-head-reads
 use Rattle.table.proofs.take_type.Reads as take-type-reads
 use Rattle.table.proofs.three.Reads as three-reads
@@ -168,7 +168,7 @@ abbrev pour-own-calls : ℕ → pour-own-lts.Claims
 pour-own-calls t = (byte-reads.Asked, byte-reads.Learnt, ahead-reads.Asked, ahead-reads.Learnt, three-reads.Asked, three-reads.Learnt, two-reads.Asked, two-reads.Learnt, open-struct-reads.Asked, open-struct-reads.Learnt, pour-below t, pour.Post)
 
 abbrev put-calls : ℕ → put-lts.Claims
-put-calls t = (find-reads.Asked, find-reads.Learnt, merge-field-below t, merge-field.Post, skip-entry-reads.Asked, skip-entry-reads.Learnt, insert-entry-reads.Asked, insert-entry-reads.Learnt)
+put-calls t = (find-reads.Asked, find-reads.Learnt, merge-field-below t, merge-field.Post, next-entry-reads.Asked, next-entry-reads.Learnt, insert-entry-reads.Asked, insert-entry-reads.Learnt)
 
 abbrev pour-Inv-loop : pour-lts.InvT-loop
 pour-Inv-loop s w₀ used row q count levels held₀ hint₀ place₀ left₀ w held hint place left = Pouring levels s w₀ w used row q count held hint place left × (length w ≡ length w₀)
@@ -246,7 +246,7 @@ pour-own-returns-2 : (t : ℕ) → pour-own-lts.Need-returns-2 (pour-own-calls t
 pour-own-returns-2 t c = let o = c .before .before .before .before .before .before .before .open-struct .ensures in let p = c .before .before .pour .ensures in (p .0 ∙ o .0, struct-poured (c .before .before .before .before .before .before .before .before .before .before .before .before .before .before .before .before .before .byte .ensures .0) (c .before .before .before .before .before .before .before .before .before .before .before .before .before .before .before .before .if1 .left) (c .before .before .before .before .before .before .before .before .before .before .before .before .before .before .ahead .ensures) (c .before .before .before .before .before .before .before .before .before .before .before .before .before .three .ensures .0) (c .before .before .before .before .before .before .before .before .before .before .before .ahead2 .ensures) (c .before .before .before .before .before .before .before .before .before .before .ahead3 .ensures) (c .before .before .before .before .before .before .before .before .before .two .ensures .0) (o .0) (o .1) (c .before .before .before .ahead4 .ensures) (p .1))
 
 put-returns : (t : ℕ) → put-lts.Need-returns (put-calls t) (put-at t) put.Post
-put-returns t c = let m = c .before .before .before .before .merge-field .ensures in (m .0, put-found (c .before .before .before .before .before .before .before .before .before .find .ensures) (c .before .before .before .before .before .before .before .found .given .1) (m .0) (m .1) (c .skip-entry .ensures))
+put-returns t c = let m = c .before .before .before .before .merge-field .ensures in (m .0, put-found (c .before .before .before .before .before .before .before .before .before .find .ensures) (c .before .before .before .before .before .before .before .found .given .1) (m .0) (m .1) (c .next-entry .ensures))
 
 put-returns-2 : (t : ℕ) → put-lts.Need-returns-2 (put-calls t) (put-at t) put.Post
 put-returns-2 t c = let i = c .before .before .insert-entry .ensures in (i .0, put-absent (c .before .before .before .before .before .before .before .find .ensures) (c .before .before .before .before .before .found2 .given .1) (i .0) (i .1))

@@ -5,7 +5,7 @@ use Rattle.table.proofs.is_named.Statement.{statement}
 use Rattle.table.proofs.is_named.Tie as tie
 
 returns-2 : tie.Need-returns-2
-returns-2 c = named-entry (c .before .before .before .before .byte .ensures .0) (c .before .before .before .if1 .left) (c .before .before .ahead .ensures) (c .before .three .ensures .0) (c .same-name .ensures)
+returns-2 c = named-entry (c .before .before .before .before .byte .ensures .0) (c .before .before .before .if1 .left) (c .before .before .ahead .ensures) (c .before .three .ensures .0) (c .has-name .ensures)
 
 pub is-named-spec : {M : Type 1} → statement M
 is-named-spec =

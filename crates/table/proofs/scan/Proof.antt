@@ -8,13 +8,13 @@ use Rattle.table.proofs.scan.Statement.{statement}
 use Rattle.table.proofs.scan.Tie as tie
 
 abbrev Inv-loop : tie.InvT-loop
-Inv-loop s w row q levels place₀ place = Scan s w row q levels place
+Inv-loop s w row name levels place₀ place = Scan s w row name levels place
 
 abbrev μ-loop : tie.MeasureT-loop
-μ-loop s w row q levels place₀ place = length w - place
+μ-loop s w row name levels place₀ place = length w - place
 
 loop-again : tie.Need-loop-again Inv-loop μ-loop
-loop-again c = scan-again _ _ _ (c .before .before .before .before .before .before .before .loop .inv) (c .before .before .before .before .before .byte .ensures .0) (c .before .before .before .before .if1 .left) (c .before .before .before .is-named .ensures) (c .before .before .if2 .left) (c .before .skip-entry .ensures)
+loop-again c = scan-again _ _ _ (c .before .before .before .before .before .before .before .loop .inv) (c .before .before .before .before .before .byte .ensures .0) (c .before .before .before .before .if1 .left) (c .before .before .before .is-named .ensures) (c .before .before .if2 .left) (c .before .next-entry .ensures)
 
 pub scan-spec : {M : Type 1} → statement M
 scan-spec =
@@ -28,7 +28,7 @@ scan-spec =
     (λ c κs. search needs)
     (λ c. scan-found _ _ _ (c .before .before .before .before .before .loop .inv) (c .before .before .before .byte .ensures .0) (c .before .before .if1 .left) (c .before .is-named .ensures) (c .if2 .taken))
     (λ c κs. search needs)
-    (λ c. scan-stuck _ _ _ (c .before .before .before .before .before .before .before .loop .inv) (c .before .before .before .before .before .byte .ensures .0) (c .before .before .before .before .if1 .left) (c .before .skip-entry .ensures) (c .if3 .taken))
+    (λ c. scan-stuck _ _ _ (c .before .before .before .before .before .before .before .loop .inv) (c .before .before .before .before .before .byte .ensures .0) (c .before .before .before .before .if1 .left) (c .before .next-entry .ensures) (c .if3 .taken))
     (λ c. omega arith)
     loop-again
     (λ c. scan-out _ _ _ (c .before .loop .inv) (c .loop-test .left)))
