@@ -10,7 +10,8 @@ use Rattle.model.specs.Tree.Children.{fields, keyAndValue, counted, countedWith
 use Rattle.model.specs.Sheet.{fieldBytes, childrenBytes, typeBytes}
 use Rattle.model.specs.WellFormed.{WellFormedParams, CountFits}
 use Rattle.walk.specs.Stands.{Skips, SkipsType, SkipsFields, memberBytes, SkipsMembers, SkipsChildren}
-use Rattle.layout.specs.Kinds.{childrenBy}
+use Rattle.layout.specs.Kinds.{paramsBy, childrenBy}
+use Rattle.layout.proofs.Tables.{params, children, params-within, children-within}
 use Rattle.walk.proofs.Standing.{byte-stands, skip-none, skip-ahead, skip-when, skip-join}
 use Rattle.walk.proofs.Parts.{Ahead, twoAt, list-skips}
 
@@ -76,3 +77,23 @@ module _ {s : Bytes} {place : ℕ} (levels code : ℕ) {k j : ℕ} (e : k ≡ j)
   pub kids-members : {first n r : ℕ} → 3 ≤ k → (k ≡ 3 → ⊥) → (k ≡ 4 → ⊥) → Ahead s place 2 first → n ≡ twoAt s place → SkipsMembers s first n levels r → SkipsChildren s place (layout code .children) levels r
   unfolding childrenBytes
   kids-members {r = r} h o u a i f = by-kind countedWithIds r (last-kind k h o u) (λ l ks b n q. list-skips (memberBytes l) a i ks (λ c. f l ks b c q))
+
+-- Types with neither parameters nor children: their code alone
+
+module _ {s : Bytes} {place : ℕ} (levels : ℕ) where
+  no-params : (b : Bytes) → WellFormedParams (paramsBy 0) b → Skips s place b place
+  unfolding paramsBy
+  no-params b w = subst (λ b. Skips s place b place) (sym w) skip-none
+
+  no-fields : SkipsFields s place 0 levels place
+  no-fields l [] h n w = skip-none
+  no-fields l (k ∷ ks) h n w = absurd (omega (arith, n))
+
+pub plain-skips : {s : Bytes} {place : ℕ} (levels : ℕ) {code behind : ℕ} → code ≡ getD s place 0 → code < 13 → Ahead s place 1 behind → SkipsType s place levels behind
+unfolding params children
+plain-skips {s} {place} levels {code} e h a =
+    let zero-below : 0 ≤ code = omega arith in
+    let at-most : code ≤ 12 = omega (arith, h) in
+    type-skips levels e a
+    (λ b w. no-params levels b (subst (λ p. WellFormedParams p b) (sym (params-within 0 0 12 tt code zero-below at-most)) w))
+    (kids-fields (levels - 1) code refl (children-within 0 0 12 tt code zero-below at-most) (omega arith) (no-fields (levels - 1)))

@@ -30,6 +30,9 @@ const MAP: usize = 39;
 
 const RUN_END_ENCODED: usize = 40;
 
+// The codes before this one, Null to Float64, have neither parameters nor children: most columns of a log are such.
+const FIRST_WITH_PARAMS: usize = 13;
+
 // A byte as a number of places.
 fn wide(x: u8) -> usize
     ensures { λ r. ⌜ (r ≡ x) × (r < 256) ⌝ }
@@ -197,6 +200,9 @@ pub fn skip_type(s: &[u8], at: usize, levels: usize) -> usize
     }
     let code = byte(s, at);
     let params = ahead(s, at, 1);
+    if code < FIRST_WITH_PARAMS {
+        return params;
+    }
     let children = skip_params(s, params, code);
     skip_children(s, children, code, levels - 1)
 }

@@ -9,7 +9,7 @@ use Rattle.model.specs.WellFormed.{LaidOut}
 use Rattle.walk.specs.Stands.{memberBytes}
 use Rattle.walk.proofs.Standing.{skip-ahead, skip-join}
 use Rattle.walk.proofs.Turns.{Turns, turns-begin, turns-again, turns-done}
-use Rattle.walk.proofs.Trees.{type-skips, no-level, kids-fields, kids-types, kids-counted, kids-members}
+use Rattle.walk.proofs.Trees.{type-skips, plain-skips, no-level, kids-fields, kids-types, kids-counted, kids-members}
 use borrow.Fn.Kinds.{In}
 use borrow.Fn.PlainCycle.{Measures, is, falls, and}
 use Rattle.walk.proofs.skip_children.Reads as skip-children
@@ -171,7 +171,10 @@ skip-type-returns : (t : ℕ) → skip-type-lts.Need-returns (skip-type-calls t)
 skip-type-returns t c = no-level _ _ (c .if1 .taken)
 
 skip-type-returns-2 : (t : ℕ) → skip-type-lts.Need-returns-2 (skip-type-calls t) (skip-type-at t) skip-type.Post
-skip-type-returns-2 t c = let p = c .before in let a = p .before in type-skips _ (a .before .byte .ensures .0) (a .ahead .ensures) (p .skip-params .ensures) (c .skip-children .ensures)
+skip-type-returns-2 t c = let a = c .before in plain-skips _ (a .before .byte .ensures .0) (c .if2 .taken) (a .ahead .ensures)
+
+skip-type-returns-3 : (t : ℕ) → skip-type-lts.Need-returns-3 (skip-type-calls t) (skip-type-at t) skip-type.Post
+skip-type-returns-3 t c = let p = c .before in let a = p .before .before in type-skips _ (a .before .byte .ensures .0) (a .ahead .ensures) (p .skip-params .ensures) (c .skip-children .ensures)
 
 pub +skip-children+skip-field+skip-fields+skip-members+skip-type-spec : {M : Type 1} → statement M
 +skip-children+skip-field+skip-fields+skip-members+skip-type-spec =
@@ -233,7 +236,8 @@ pub +skip-children+skip-field+skip-fields+skip-members+skip-type-spec : {M : Typ
     (skip-type-returns t)
     (λ c κs. tt)
     (λ c κs. tt)
+    (skip-type-returns-2 t)
     (λ c κs. tt)
     (λ c. omega arith)
     (λ c κs. omega arith)
-    (skip-type-returns-2 t)
+    (skip-type-returns-3 t)
