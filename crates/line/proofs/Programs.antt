@@ -1,10 +1,13 @@
 -- The line of the program: 35, or that of the merge; and in a buffer that holds every line.
-use Prim.Native.Nat.{ℕ, _*_, _≤_, _<_}
+use Prim.Native.Nat.{ℕ, _+_, _*_, _≤_, _<_}
 use native.Mathlib.Omega.{arith}
-use mathlib.Core.Path.{_≡_, sym, ap, _∙_}
+use mathlib.Core.Path.{_≡_, refl, sym, ap, _∙_}
 use mathlib.Core.List.{[]}
-use lib.ListN.{length}
-use borrow.Author.Tests.{lt-ltb, le-ltb}
+use mathlib.Core.Bool.{Bool, true, false}
+use lib.ListN.{length, take}
+use lib.Seq.{take-all, length-take-le}
+use lib.Dec.{ltb}
+use borrow.Author.Tests.{ltb-true, ltb-false, lt-ltb, le-ltb}
 use Rattle.model.specs.Numbers.{maxProgramBytes, maxSheetBytes, workBytesPerSheetByte, inputTooLong}
 use Rattle.model.specs.Bytes.{Bytes, AreBytes}
 use Rattle.model.specs.Call.{Exit, zeros, mergeCall}
@@ -36,6 +39,18 @@ module _ {w w′ : Bytes} {p q : ℕ} where
   unfolding programLine
   not-too-long input h f = puts-same (sym (choose-false _ _ _ (le-ltb maxProgramBytes (length input) h))) f
 
+-- 16,001 bytes tell an input that is too long from the longest one
+program-line-read : (all : Bytes) → programLine (take (maxProgramBytes + 1) all) ≡ programLine all
+unfolding programLine
+program-line-read all = go (ltb maxProgramBytes (length all)) refl
+  where
+    go : (t : Bool) → ltb maxProgramBytes (length all) ≡ t → programLine (take (maxProgramBytes + 1) all) ≡ programLine all
+    go true e =
+        let h = ltb-true maxProgramBytes (length all) e in
+        let n = length-take-le (maxProgramBytes + 1) all (omega (arith, h)) in
+        choose-true _ _ _ (lt-ltb maxProgramBytes (length (take (maxProgramBytes + 1) all)) (omega (arith, n))) ∙ sym (choose-true _ _ _ e)
+    go false e = ap programLine (take-all (maxProgramBytes + 1) all (omega (arith, ltb-false maxProgramBytes (length all) e)))
+
 -- no line passes the buffer, and none the longest answer
 pub prints : (input : Bytes) {w w′ : Bytes} {r : ℕ} → AreBytes input → length w ≡ maxLineBytes → Puts (programLine input) w 0 w′ r → Prints input w w′ r
 prints input {w} byte room f =
@@ -45,4 +60,5 @@ prints input {w} byte room f =
       counted = omega (arith, n);
       fits = omega (arith, h, n, room, f .size);
       written = f .written (omega (arith, h)) (omega (arith, h, room)) ∙ pasted-zero w (programLine input);
+      whole = λ all e. ap programLine e ∙ program-line-read all;
     }

@@ -122,7 +122,8 @@ fn put_program_line(dst: &mut [u8], input: &[u8]) -> usize
     put_merged(dst, input)
 }
 
-// The same into a buffer that holds every such line: so the line is written whole, whatever was read.
+// The same into a buffer that holds every such line: so the line is written whole, whatever was read. The promise also says what is left to
+// the program: that the bytes given are those of standard input, to its end or to the 16,001st; the line is then that of all of them.
 pub fn program_line(input: &[u8], line: &mut [u8; MAX_LINE_BYTES]) -> usize
     ensures { λ r. ⌜ Prints (now (input .entry)) (now (line .entry)) (now (line .exit)) r ⌝ }
 {

@@ -1,6 +1,6 @@
 // Document 01, module 1, text and metadata: the UTF-8 check of a string, by the syntax of RFC 3629, section 4, and equality
 // and order of byte strings. The Rust has these from `String`, and from the `BTreeMap<String, String>` of metadata.rs.
-// Look-up of a key is not here yet: it walks a sheet.
+// Look-up of a key walks a sheet: datatype has it.
 ghost use mathlib.Core.Path.{_≡_};
 ghost use Prim.Native.Nat.{_+_, _≤_, _<_, max};
 ghost use lib.ListN.{length, take, drop};

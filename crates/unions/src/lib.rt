@@ -1,7 +1,7 @@
 // Document 01, module 3, unions: the two union numbering calls, and the look-up of a type id. They render `UnionFields::try_new`,
 // `UnionFields::try_from_fields` and `UnionFields::find_by_type_id` of fields.rs. "A union child's type id and its position are two
 // counters, never used for each other": each has a type of its own. "`u128` of seen ids: an array of flags."
-// The look-up of an equal field is not here yet: it compares fields.
+// The look-up of an equal field compares fields: datatype has it.
 use buffer::Outcome;
 ghost use mathlib.Core.Path.{_≡_};
 ghost use mathlib.Core.List.{[]};
