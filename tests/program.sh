@@ -1,6 +1,7 @@
 #!/usr/bin/env bash
 # The program merge, run as it is: what it prints for trains that come by a pipe, by a file and in pieces. The proofs give the line for what
-# was read; this tries what they leave to the program: reading to the end or to the 16,001st byte, and writing the whole line.
+# was read; this tries what they leave to the program: reading to the end or to the 16,001st byte, and writing the whole line. And the
+# command ./run, which gives it the bytes of files.
 # The last line is 'N passed, M failed'; the status is 0 only where M is 0.
 set -u
 cd "$(dirname "$0")/.." || exit 1
@@ -18,16 +19,20 @@ if ! rt check merge || [ ! -x "$program" ]; then
   exit 1
 fi
 
-# check WHAT LINE: standard input goes to the program, which must print this line, its line feed too, and nothing else
+# check WHAT LINE [COMMAND..]: standard input goes to the program, or to the command, which must print this line, its line feed too, and
+# nothing else
 check() {
-  printf '%s\n' "$2" >"$wanted"
-  "$program" >"$printed"
+  local what=$1 line=$2
+  shift 2
+  [ $# -gt 0 ] || set -- "$program"
+  printf '%s\n' "$line" >"$wanted"
+  "$@" >"$printed"
   if cmp -s "$printed" "$wanted"; then
     passed=$((passed + 1))
-    echo "ok: $1"
+    echo "ok: $what"
   else
     failed=$((failed + 1))
-    echo "FAILED: $1: wanted $(head -c 60 "$wanted"), printed $(head -c 60 "$printed")"
+    echo "FAILED: $what: wanted $(head -c 60 "$wanted"), printed $(head -c 60 "$printed")"
   fi
 }
 
@@ -62,6 +67,11 @@ check "16,001 bytes" "35 0 -" < <(long 16001)
 check "16,001 bytes in two pieces" "35 0 -" < <(long 16001 | head -c 16000; sleep 0.2; printf '\x00')
 check "more than a buffer of bytes" "35 0 -" < <(head -c 1000000 /dev/zero)
 
+check "./run: the stored example is P3" "0 0 0201000501007604" ./run </dev/null
+check "./run: files, P5" "20 1 -" ./run examples/parked.sheet examples/ordered.sheet </dev/null
+check "./run: files of the folder that it is called in" "0 0 0201000501007604" env -C examples ../run driven.sheet parked.sheet </dev/null
+check "./run: standard input, then a file" "0 0 0201000501007604" ./run - examples/driven.sheet <examples/parked.sheet
+
 # quiet WHAT: the program ran and had no line to print, or could not print it: nothing is printed, and standard error says why
 quiet() {
   if [ ! -s "$printed" ] && [ -s "$wanted" ]; then
@@ -78,6 +88,9 @@ quiet "an input that cannot be read: a folder"
 : >"$printed"
 "$program" </dev/null >/dev/full 2>"$wanted"
 quiet "a line that cannot be written: a full device"
+
+./run examples/parked.sheet examples/missing.sheet >"$printed" 2>"$wanted" </dev/null && echo said >"$printed"
+quiet "./run: a file that is missing, which ends with a status of its own"
 
 echo "$passed passed, $failed failed"
 [ "$failed" -eq 0 ]

@@ -1,17 +1,19 @@
 -- Two types, the columns of two sheets, and two sheets.
 use Prim.Native.Nat.{ℕ, zero, suc, _+_, _-_, _≤_}
 use native.Mathlib.Omega.{arith}
-use mathlib.Core.Path.{_≡_, refl, sym, ap, subst, _∙_}
+use mathlib.Core.Path.{_≡_, refl, sym, ap, ap₂, subst, _∙_}
 use mathlib.Core.List.{[], _∷_}
 use mathlib.Core.Bool.{Bool, true, false, _&&_}
 use lib.ListN.{length, getD}
-use Rattle.model.specs.Bytes.{Bytes, Metadata, Every, same}
-use Rattle.model.specs.Tree.{DataType, Schema, Struct, table, layout}
+use lib.Dec.{eqb}
+use Rattle.model.specs.Bytes.{Bytes, Metadata, Every, choose, same, all, sameBytes}
+use Rattle.model.specs.Tree.{DataType, Schema, Struct, Union, table, layout, leaf}
 use Rattle.model.specs.Tree.Children.{counted}
 use Rattle.model.specs.Sheet.{childrenBytes, typeBytes, sheetBytes}
 use Rattle.model.specs.WellFormed.{WellFormedParams, CountFits, Whole, Child}
 use Rattle.model.specs.Equal.{sameColumns}
 use Rattle.model.specs.Datatype.{equalsColumns, containsMetadata, containsSchema}
+use Rattle.model.proofs.Whole.{leaf-empty}
 use Rattle.layout.specs.Kinds.{childrenBy}
 use Rattle.walk.specs.Stands.{Stands, Skips, ColumnsAt}
 use Rattle.walk.proofs.Standing.{first-stands, byte-stands, stands-behind, skip-ahead}
@@ -19,7 +21,7 @@ use Rattle.walk.proofs.Parts.{Ahead}
 use Rattle.datatype.specs.declared.compare.Comparison.{Comparison}
 use Rattle.datatype.specs.declared.compare.Comparison.the-variants.{Equal, EqualsDatatype, Contains}
 use Rattle.datatype.specs.Children.{childBytes}
-use Rattle.datatype.specs.Comparisons.{PairsAt, compareField, compareChild, compareSchema}
+use Rattle.datatype.specs.Comparisons.{PairsAt, compareType, compareField, compareChild, compareSchema, compareChildren, compareMembers, countsAgree, byId}
 use Rattle.datatype.proofs.Texts.{Stretches, Contained}
 use Rattle.datatype.proofs.Comparisons.{plain-row, other-codes, other-params, children-decide}
 use Rattle.datatype.proofs.Children.{Types, Kids, Rows}
@@ -48,6 +50,26 @@ parts-of {s} {place} {code} {from} {first} e a f l x w st =
     let p = first-stands (x .params) _ st′ in
     record { params = p; behind = k .behind p; children = stands-behind k st′ }
 
+always : (b : Bool) → true ≡ choose b (λ u. true) λ u. true
+unfolding choose
+always true = refl
+always false = refl
+
+-- no children on either side agree
+no-children : (how : Comparison) (l code : ℕ) → true ≡ compareChildren how l code [] []
+unfolding compareChildren compareMembers countsAgree byId choose same all
+no-children Equal l code = refl
+no-children EqualsDatatype l code = always (eqb code Union)
+no-children Contains l code = always (eqb code Union)
+
+plain-types : (how : Comparison) (l : ℕ) (x y : DataType (suc l)) → x .code ≡ y .code → layout (x .code) ≡ leaf → Whole (suc l) x → Whole (suc l) y → true ≡ compareType how (suc l) x y
+unfolding same
+plain-types how l x y c i w w′ =
+    let p = leaf-empty l x i w in
+    let q = leaf-empty l y (ap layout (sym c) ∙ i) w′ in
+    no-children how l (x .code) ∙ sym (ap₂ (compareChildren how l (x .code)) (p .1) (q .1))
+    ∙ children-decide l x y how c (ap₂ sameBytes (p .0) (q .0)) (w .2) (subst (λ c. Every (Child l (layout c .children)) (y .children)) (sym c) (w′ .2))
+
 module _ (how : Comparison) {s t : Bytes} {a b : ℕ} (levels : ℕ) where
   -- no type is of no level
   pub no-types : (r : Bool) → levels ≤ 0 → Types how s a t b levels r
@@ -58,6 +80,14 @@ module _ (how : Comparison) {s t : Bytes} {a b : ℕ} (levels : ℕ) where
     pub types-codes : (code ≡ other → ⊥) → Types how s a t b levels false
     types-codes d zero x y k w w′ st st′ = absurd w
     types-codes d (suc l) x y k w w′ st st′ = other-codes l x y how λ i. d (code-is e l x st ∙ i ∙ sym (code-is e′ l y st′))
+
+    -- of a plain type a sheet has the code alone
+    pub types-plain : code ≡ other → layout code ≡ leaf → Types how s a t b levels true
+    types-plain d i zero x y k w w′ st st′ = absurd w
+    types-plain d i (suc l) x y k w w′ st st′ =
+        let c = code-is e l x st in
+        let c′ = d ∙ code-is e′ l y st′ in
+        plain-types how l x y (sym c ∙ c′) (ap layout (sym c) ∙ i) w w′
 
     module _ {from since first next : ℕ} (d : code ≡ other) (u : Ahead s a 1 from) (v : Ahead t b 1 since) (f : Params s from code first) (g : Params t since code next) where
       one-code : (l : ℕ) (x y : DataType (suc l)) → Stands s a (typeBytes (suc l) x) → Stands t b (typeBytes (suc l) y) → x .code ≡ y .code

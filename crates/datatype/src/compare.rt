@@ -143,7 +143,7 @@ fn skip_child(s: &[u8], at: usize, kind: usize, levels: usize) -> usize
     walk::skip_field(s, walk::ahead(s, at, 1), levels)
 }
 
-// Two types of at most so many levels: one code, equal parameters, and the children.
+// Two types of at most so many levels: one code, equal parameters, and the children. A plain type has neither.
 pub fn compare_type(s: &[u8], a: usize, t: &[u8], b: usize, levels: usize, how: Comparison) -> bool
     ensures { λ r. ⌜ ((l : ℕ) (x y : DataType l) → l ≤ levels → Whole l x → Whole l y → Stands (now (s .entry)) a (typeBytes l x) → Stands (now (t .entry)) b (typeBytes l y) → r ≡ compareType how l x y) ⌝ }
 {
@@ -153,6 +153,9 @@ pub fn compare_type(s: &[u8], a: usize, t: &[u8], b: usize, levels: usize, how: 
     let code = walk::byte(s, a);
     if code != walk::byte(t, b) {
         return false;
+    }
+    if layout::is_plain(code) {
+        return true;
     }
     let from = walk::ahead(s, a, 1);
     let since = walk::ahead(t, b, 1);

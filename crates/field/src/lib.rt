@@ -49,10 +49,13 @@ fn is_list(code: usize) -> bool
     code == LARGE_LIST
 }
 
-// "All other types must be equal."
+// "All other types must be equal." Of a plain type the code says everything, and both have one code.
 fn same_or_clash(s: &[u8], w: &mut [u8], used: usize, at: usize, t: usize, levels: usize) -> Merged
     ensures { λ r. ⌜ (length (now (w .exit)) ≡ length (now (w .entry))) × MergesEqual levels (now (s .entry)) (now (w .entry)) used at t (now (w .exit)) r ⌝ }
 {
+    if layout::is_plain(walk::byte(s, t)) {
+        return Merged::Used(used);
+    }
     let own = table::three(&w[..], walk::ahead(&w[..], at, 1));
     if datatype::same_type(s, own, s, t, levels) {
         return Merged::Used(used);

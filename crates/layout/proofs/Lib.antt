@@ -1,2 +1,3 @@
--- What the proofs of both look-ups use.
+-- What the proofs of the look-ups use.
 pub mod Tables
+pub mod Plain

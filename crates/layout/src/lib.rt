@@ -1,7 +1,8 @@
 // The table of the 41 types as the code reads it: document 01, "A type is a code byte 0 to 40 in the order of `enum DataType`, then
 // parameters, then children." Reading a sheet and going over one that was read look types up here.
 ghost use mathlib.Core.Path.{_≡_};
-ghost use Rattle.model.specs.Tree.{layout};
+ghost use mathlib.Core.Bool.{true};
+ghost use Rattle.model.specs.Tree.{layout, leaf};
 ghost use Rattle.layout.specs.Kinds.{paramsBy, childrenBy};
 
 // What parameters the type of a code has, by the numbers of `paramsBy`; none past the table. A match and no table: a table would be laid
@@ -43,4 +44,15 @@ pub fn children_kind(code: usize) -> u8
         40 => 2,
         _ => 0,
     }
+}
+
+// Whether the type of a code has neither parameters nor children. Most columns of a log are such, and a sheet has nothing of their types but
+// the code.
+pub fn is_plain(code: usize) -> bool
+    ensures { λ r. ⌜ (r ≡ true → layout code ≡ leaf) × (layout code ≡ leaf → r ≡ true) ⌝ }
+{
+    if params_kind(code) != 0 {
+        return false;
+    }
+    children_kind(code) == 0
 }

@@ -1,10 +1,13 @@
 -- Trees of which the bytes say everything are laid out, and well-formed trees are such trees.
 use Prim.Native.Nat.{ℕ, zero, suc}
-use mathlib.Core.List.{List, []}
+use native.Mathlib.Omega.{arith}
+use mathlib.Core.Path.{_≡_, refl, subst}
+use mathlib.Core.List.{List, [], _∷_}
+use lib.ListN.{length}
 use mathlib.Core.Bool.{Bool, false}
 use Rattle.model.specs.Bytes.{Every}
-use Rattle.model.specs.Tree.{DataType, Field, Schema, Children, fields, keyAndValue, counted, countedWithIds, layout}
-use Rattle.model.specs.WellFormed.{WellFormedType, WellFormedChildren, WellFormedColumn, WellFormedSchema, LaidOut, Whole, Child}
+use Rattle.model.specs.Tree.{Layout, DataType, Field, Schema, Children, fields, keyAndValue, counted, countedWithIds, layout, leaf}
+use Rattle.model.specs.WellFormed.{WellFormedParams, CountFits, WellFormedType, WellFormedChildren, WellFormedColumn, WellFormedSchema, LaidOut, Whole, Child}
 use Rattle.model.proofs.Lists.{every-map}
 use Rattle.model.proofs.WellFormed.{each-every, type-laid-out}
 
@@ -15,6 +18,17 @@ whole-laid-out (suc l) t h = (
   h .1,
   every-map (Child l (layout (t .code) .children)) (λ k. LaidOut l (k .dataType)) (λ k w. whole-laid-out l (k .dataType) (w .1)) (t .children) (h .2),
 )
+
+-- of a type with neither parameters nor children the code says everything
+pub leaf-empty : (l : ℕ) (t : DataType (suc l)) → layout (t .code) ≡ leaf → Whole (suc l) t → (t .params ≡ []) × (t .children ≡ [])
+leaf-empty l t e w = (
+  subst (λ (p : Layout). WellFormedParams (p .params) (t .params)) e (w .0),
+  none (t .children) (subst (λ (p : Layout). CountFits (p .children) (t .children)) e (w .1)),
+)
+  where
+    none : (ks : List (Field l)) → length ks ≡ 0 → ks ≡ []
+    none [] n = refl
+    none (k ∷ ks) n = absurd (omega (arith, n))
 
 children-whole : (l : ℕ) → ((o : Bool) (t : DataType l) → WellFormedType l o t → Whole l t) → (c : Children) (ks : List (Field l))
     → WellFormedChildren (WellFormedType l) c ks → Every (Child l c) ks

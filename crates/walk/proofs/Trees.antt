@@ -5,13 +5,12 @@ use mathlib.Core.Path.{_≡_, refl, sym, ap, subst, _∙_}
 use mathlib.Core.List.{[], _∷_}
 use lib.ListN.{getD}
 use Rattle.model.specs.Bytes.{Bytes}
-use Rattle.model.specs.Tree.{Children, layout}
+use Rattle.model.specs.Tree.{Layout, Children, layout, leaf}
 use Rattle.model.specs.Tree.Children.{fields, keyAndValue, counted, countedWithIds}
 use Rattle.model.specs.Sheet.{fieldBytes, childrenBytes, typeBytes}
 use Rattle.model.specs.WellFormed.{WellFormedParams, CountFits}
 use Rattle.walk.specs.Stands.{Skips, SkipsType, SkipsFields, memberBytes, SkipsMembers, SkipsChildren}
-use Rattle.layout.specs.Kinds.{paramsBy, childrenBy}
-use Rattle.layout.proofs.Tables.{params, children, params-within, children-within}
+use Rattle.layout.specs.Kinds.{childrenBy}
 use Rattle.walk.proofs.Standing.{byte-stands, skip-none, skip-ahead, skip-when, skip-join}
 use Rattle.walk.proofs.Parts.{Ahead, twoAt, list-skips}
 
@@ -80,20 +79,13 @@ module _ {s : Bytes} {place : ℕ} (levels code : ℕ) {k j : ℕ} (e : k ≡ j)
 
 -- Types with neither parameters nor children: their code alone
 
-module _ {s : Bytes} {place : ℕ} (levels : ℕ) where
-  no-params : (b : Bytes) → WellFormedParams (paramsBy 0) b → Skips s place b place
-  unfolding paramsBy
-  no-params b w = subst (λ b. Skips s place b place) (sym w) skip-none
+no-fields : {s : Bytes} {place : ℕ} (levels : ℕ) → SkipsFields s place 0 levels place
+no-fields levels l [] h n w = skip-none
+no-fields levels l (k ∷ ks) h n w = absurd (omega (arith, n))
 
-  no-fields : SkipsFields s place 0 levels place
-  no-fields l [] h n w = skip-none
-  no-fields l (k ∷ ks) h n w = absurd (omega (arith, n))
-
-pub plain-skips : {s : Bytes} {place : ℕ} (levels : ℕ) {code behind : ℕ} → code ≡ getD s place 0 → code < 13 → Ahead s place 1 behind → SkipsType s place levels behind
-unfolding params children
-plain-skips {s} {place} levels {code} e h a =
-    let zero-below : 0 ≤ code = omega arith in
-    let at-most : code ≤ 12 = omega (arith, h) in
+pub plain-skips : {s : Bytes} {place : ℕ} (levels : ℕ) {code behind : ℕ} → code ≡ getD s place 0 → layout code ≡ leaf → Ahead s place 1 behind → SkipsType s place levels behind
+unfolding childrenBytes
+plain-skips {s} {place} levels {code} {behind} e h a =
     type-skips levels e a
-    (λ b w. no-params levels b (subst (λ p. WellFormedParams p b) (sym (params-within 0 0 12 tt code zero-below at-most)) w))
-    (kids-fields (levels - 1) code refl (children-within 0 0 12 tt code zero-below at-most) (omega arith) (no-fields (levels - 1)))
+    (λ b w. subst (λ b. Skips s behind b behind) (sym (subst (λ (p : Layout). WellFormedParams (p .params) b) h w)) skip-none)
+    (subst (λ (p : Layout). SkipsChildren s behind (p .children) (levels - 1) behind) (sym h) (no-fields (levels - 1)))

@@ -30,9 +30,6 @@ const MAP: usize = 39;
 
 const RUN_END_ENCODED: usize = 40;
 
-// The codes before this one, Null to Float64, have neither parameters nor children: most columns of a log are such.
-const FIRST_WITH_PARAMS: usize = 13;
-
 // A byte as a number of places.
 fn wide(x: u8) -> usize
     ensures { λ r. ⌜ (r ≡ x) × (r < 256) ⌝ }
@@ -184,11 +181,15 @@ pub fn skip_params(s: &[u8], at: usize, code: usize) -> usize
     ahead(s, at, params_width(kind))
 }
 
-// A field of at most so many levels.
+// A field of at most so many levels. Most have a plain type, which is passed here without a call.
 pub fn skip_field(s: &[u8], at: usize, levels: usize) -> usize
     ensures { λ r. ⌜ SkipsField (now (s .entry)) at levels r ⌝ }
 {
-    skip_type(s, skip_head(s, at), levels)
+    let data_type = skip_head(s, at);
+    if layout::is_plain(byte(s, data_type)) {
+        return ahead(s, data_type, 1);
+    }
+    skip_type(s, data_type, levels)
 }
 
 // A type of at most so many levels, itself among them.
@@ -200,7 +201,7 @@ pub fn skip_type(s: &[u8], at: usize, levels: usize) -> usize
     }
     let code = byte(s, at);
     let params = ahead(s, at, 1);
-    if code < FIRST_WITH_PARAMS {
+    if layout::is_plain(code) {
         return params;
     }
     let children = skip_params(s, params, code);

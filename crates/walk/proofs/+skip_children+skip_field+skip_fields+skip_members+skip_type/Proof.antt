@@ -30,6 +30,7 @@ use Rattle.walk.proofs.+skip_children+skip_field+skip_fields+skip_membe
 use Rattle.walk.proofs.ahead.Reads as ahead-reads
 use Rattle.walk.proofs.byte.Reads as byte-reads
 use Rattle.layout.proofs.children_kind.Reads as children-kind-reads
+use Rattle.layout.proofs.is_plain.Reads as is-plain-reads
 use Rattle.walk.proofs.skip_head.Reads as skip-head-reads
 use Rattle.walk.proofs.skip_params.Reads as skip-params-reads
 use Rattle.walk.proofs.two.Reads as two-reads
@@ -98,7 +99,7 @@ abbrev skip-children-calls : ℕ → skip-children-lts.Claims
 skip-children-calls t = (children-kind-reads.Asked, children-kind-reads.Learnt, wide-reads.Asked, wide-reads.Learnt, skip-fields-below t, skip-fields.Post, skip-type-below t, skip-type.Post, ahead-reads.Asked, ahead-reads.Learnt, two-reads.Asked, two-reads.Learnt, skip-members-below t, skip-members.Post)
 
 abbrev skip-field-calls : ℕ → skip-field-lts.Claims
-skip-field-calls t = (skip-head-reads.Asked, skip-head-reads.Learnt, skip-type-below t, skip-type.Post)
+skip-field-calls t = (skip-head-reads.Asked, skip-head-reads.Learnt, byte-reads.Asked, byte-reads.Learnt, is-plain-reads.Asked, is-plain-reads.Learnt, ahead-reads.Asked, ahead-reads.Learnt, skip-type-below t, skip-type.Post)
 
 abbrev skip-fields-calls : ℕ → skip-fields-lts.Claims
 skip-fields-calls t = (skip-field-below t, skip-field.Post)
@@ -107,7 +108,7 @@ abbrev skip-members-calls : ℕ → skip-members-lts.Claims
 skip-members-calls t = (ahead-reads.Asked, ahead-reads.Learnt, skip-field-below t, skip-field.Post)
 
 abbrev skip-type-calls : ℕ → skip-type-lts.Claims
-skip-type-calls t = (byte-reads.Asked, byte-reads.Learnt, ahead-reads.Asked, ahead-reads.Learnt, skip-params-reads.Asked, skip-params-reads.Learnt, skip-children-below t, skip-children.Post)
+skip-type-calls t = (byte-reads.Asked, byte-reads.Learnt, ahead-reads.Asked, ahead-reads.Learnt, is-plain-reads.Asked, is-plain-reads.Learnt, skip-params-reads.Asked, skip-params-reads.Learnt, skip-children-below t, skip-children.Post)
 
 skip-children-returns : (t : ℕ) → skip-children-lts.Need-returns (skip-children-calls t) (skip-children-at t) skip-children.Post
 skip-children-returns t c = let i = c .before in let w = i .before in kids-fields _ _ (w .wide .ensures .0) (w .before .children-kind .ensures) (i .if1 .taken) (c .skip-fields .ensures)
@@ -123,7 +124,11 @@ skip-children-returns-4 t c = let t = c .before in let i = t .before in let a = 
 
 skip-field-returns : (t : ℕ) → skip-field-lts.Need-returns (skip-field-calls t) (skip-field-at t) skip-field.Post
 unfolding fieldBytes
-skip-field-returns t c = λ l f h w. skip-join (c .before .skip-head .ensures (f .head)) (c .skip-type .ensures l (f .dataType) h w)
+skip-field-returns t c = let p = c .before .before in let b = p .before in λ l f h w. skip-join (b .before .skip-head .ensures (f .head)) (plain-skips _ (b .byte .ensures .0) (p .is-plain .ensures .0 (c .before .if1 .taken)) (c .ahead .ensures) l (f .dataType) h w)
+
+skip-field-returns-2 : (t : ℕ) → skip-field-lts.Need-returns-2 (skip-field-calls t) (skip-field-at t) skip-field.Post
+unfolding fieldBytes
+skip-field-returns-2 t c = λ l f h w. skip-join (c .before .before .before .before .skip-head .ensures (f .head)) (c .skip-type .ensures l (f .dataType) h w)
 
 abbrev skip-fields-Inv-loop : skip-fields-lts.InvT-loop
 skip-fields-Inv-loop s at count levels place₀ left₀ place left = (l : ℕ) → l ≤ levels → Turns {A = Field l} (λ k. LaidOut l (k .dataType)) (fieldBytes (typeBytes l)) s at count place left
@@ -171,10 +176,10 @@ skip-type-returns : (t : ℕ) → skip-type-lts.Need-returns (skip-type-calls t)
 skip-type-returns t c = no-level _ _ (c .if1 .taken)
 
 skip-type-returns-2 : (t : ℕ) → skip-type-lts.Need-returns-2 (skip-type-calls t) (skip-type-at t) skip-type.Post
-skip-type-returns-2 t c = let a = c .before in plain-skips _ (a .before .byte .ensures .0) (c .if2 .taken) (a .ahead .ensures)
+skip-type-returns-2 t c = let p = c .before in let a = p .before in plain-skips _ (a .before .byte .ensures .0) (p .is-plain .ensures .0 (c .if2 .taken)) (a .ahead .ensures)
 
 skip-type-returns-3 : (t : ℕ) → skip-type-lts.Need-returns-3 (skip-type-calls t) (skip-type-at t) skip-type.Post
-skip-type-returns-3 t c = let p = c .before in let a = p .before .before in type-skips _ (a .before .byte .ensures .0) (a .ahead .ensures) (p .skip-params .ensures) (c .skip-children .ensures)
+skip-type-returns-3 t c = let p = c .before in let a = p .before .before .before in type-skips _ (a .before .byte .ensures .0) (a .ahead .ensures) (p .skip-params .ensures) (c .skip-children .ensures)
 
 pub +skip-children+skip-field+skip-fields+skip-members+skip-type-spec : {M : Type 1} → statement M
 +skip-children+skip-field+skip-fields+skip-members+skip-type-spec =
@@ -205,8 +210,12 @@ pub +skip-children+skip-field+skip-fields+skip-members+skip-type-spec : {M : Typ
     (skip-field-at t)
     skip-field.Post
     (λ c κs. tt)
+    (λ c κs. tt)
+    (λ c κs. tt)
+    (λ c κs. tt)
+    (skip-field-returns t)
     (λ c κs. omega arith)
-    (skip-field-returns t))
+    (skip-field-returns-2 t))
     (λ t. skip-fields-lts.spec (skip-fields-calls t)
     (skip-fields-at t)
     skip-fields.Post
@@ -234,6 +243,7 @@ pub +skip-children+skip-field+skip-fields+skip-members+skip-type-spec : {M : Typ
     (skip-type-at t)
     skip-type.Post
     (skip-type-returns t)
+    (λ c κs. tt)
     (λ c κs. tt)
     (λ c κs. tt)
     (skip-type-returns-2 t)

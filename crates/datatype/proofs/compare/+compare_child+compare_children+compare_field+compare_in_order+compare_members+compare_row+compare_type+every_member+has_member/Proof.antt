@@ -11,7 +11,7 @@ use Rattle.datatype.specs.Comparisons.{compareChild}
 use Rattle.datatype.proofs.Rows.{Rounds, rounds-begin, rounds-again, rounds-stop, rounds-done}
 use Rattle.datatype.proofs.Children.{fields-heads, fields-types, pairs-types, pairs-fields, pairs-ids, pairs-members, order-fields, order-types, order-counts, order-rows, members-counts, members-every, kids-members, kids-order}
 use Rattle.datatype.proofs.Members.{One, one-begin, one-again, one-found, one-none, EachOne, each-begin, each-again, each-stop, each-done}
-use Rattle.datatype.proofs.Types.{no-types, types-codes, types-params, types-kids}
+use Rattle.datatype.proofs.Types.{no-types, types-codes, types-plain, types-params, types-kids}
 use borrow.Fn.Kinds.{In}
 use borrow.Fn.PlainCycle.{Measures, is, falls, and}
 use Rattle.datatype.proofs.compare.compare_child.Reads as compare-child
@@ -49,6 +49,7 @@ use Rattle.datatype.proofs.compare.skip_child.Reads as skip-child-reads
 use Rattle.datatype.proofs.compare.wide.Reads as wide-reads
 use Rattle.datatype.proofs.metadata.same_stretch.Reads as same-stretch-reads
 use Rattle.layout.proofs.children_kind.Reads as children-kind-reads
+use Rattle.layout.proofs.is_plain.Reads as is-plain-reads
 use Rattle.walk.proofs.ahead.Reads as ahead-reads
 use Rattle.walk.proofs.byte.Reads as byte-reads
 use Rattle.walk.proofs.skip_head.Reads as skip-head-reads
@@ -161,7 +162,7 @@ abbrev compare-row-calls : ℕ → compare-row-lts.Claims
 compare-row-calls t = (compare-child-below t, compare-child.Post, skip-child-reads.Asked, skip-child-reads.Learnt)
 
 abbrev compare-type-calls : ℕ → compare-type-lts.Claims
-compare-type-calls t = (byte-reads.Asked, byte-reads.Learnt, ahead-reads.Asked, ahead-reads.Learnt, skip-params-reads.Asked, skip-params-reads.Learnt, same-stretch-reads.Asked, same-stretch-reads.Learnt, compare-children-below t, compare-children.Post)
+compare-type-calls t = (byte-reads.Asked, byte-reads.Learnt, is-plain-reads.Asked, is-plain-reads.Learnt, ahead-reads.Asked, ahead-reads.Learnt, skip-params-reads.Asked, skip-params-reads.Learnt, same-stretch-reads.Asked, same-stretch-reads.Learnt, compare-children-below t, compare-children.Post)
 
 abbrev every-member-calls : ℕ → every-member-lts.Claims
 every-member-calls t = (has-member-below t, has-member.Post, skip-child-reads.Asked, skip-child-reads.Learnt)
@@ -242,10 +243,13 @@ compare-type-returns-2 : (t : ℕ) → compare-type-lts.Need-returns-2 (compare-
 compare-type-returns-2 t c = let o = c .before in types-codes _ _ (o .before .byte .ensures .0) (o .byte2 .ensures .0) (c .if2 .taken)
 
 compare-type-returns-3 : (t : ℕ) → compare-type-lts.Need-returns-3 (compare-type-calls t) (compare-type-at t) compare-type.Post
-compare-type-returns-3 t c = let h = c .before in let g = h .before in let f = g .before in let v = f .before in let u = v .before in let d = u .before in let o = d .before in types-params _ _ (o .before .byte .ensures .0) (o .byte2 .ensures .0) (d .if2 .left) (u .ahead .ensures) (v .ahead2 .ensures) (f .skip-params .ensures) (g .skip-params2 .ensures) (not-true _ (c .if3 .taken)) (h .same-stretch .ensures)
+compare-type-returns-3 t c = let p = c .before in let d = p .before in let o = d .before in types-plain _ _ (o .before .byte .ensures .0) (o .byte2 .ensures .0) (d .if2 .left) (p .is-plain .ensures .0 (c .if3 .taken))
 
 compare-type-returns-4 : (t : ℕ) → compare-type-lts.Need-returns-4 (compare-type-calls t) (compare-type-at t) compare-type.Post
-compare-type-returns-4 t c = let i = c .before in let h = i .before in let g = h .before in let f = g .before in let v = f .before in let u = v .before in let d = u .before in let o = d .before in types-kids _ _ (o .before .byte .ensures .0) (o .byte2 .ensures .0) (d .if2 .left) (u .ahead .ensures) (v .ahead2 .ensures) (f .skip-params .ensures) (g .skip-params2 .ensures) (not-false _ (i .if3 .left)) (h .same-stretch .ensures) (c .compare-children .ensures)
+compare-type-returns-4 t c = let h = c .before in let g = h .before in let f = g .before in let v = f .before in let u = v .before in let d = u .before .before .before in let o = d .before in types-params _ _ (o .before .byte .ensures .0) (o .byte2 .ensures .0) (d .if2 .left) (u .ahead .ensures) (v .ahead2 .ensures) (f .skip-params .ensures) (g .skip-params2 .ensures) (not-true _ (c .if4 .taken)) (h .same-stretch .ensures)
+
+compare-type-returns-5 : (t : ℕ) → compare-type-lts.Need-returns-5 (compare-type-calls t) (compare-type-at t) compare-type.Post
+compare-type-returns-5 t c = let i = c .before in let h = i .before in let g = h .before in let f = g .before in let v = f .before in let u = v .before in let d = u .before .before .before in let o = d .before in types-kids _ _ (o .before .byte .ensures .0) (o .byte2 .ensures .0) (d .if2 .left) (u .ahead .ensures) (v .ahead2 .ensures) (f .skip-params .ensures) (g .skip-params2 .ensures) (not-false _ (i .if4 .left)) (h .same-stretch .ensures) (c .compare-children .ensures)
 
 abbrev every-member-Inv-loop : every-member-lts.InvT-loop
 every-member-Inv-loop s a n t b m levels how place₀ left₀ place left = EachOne how s a n t b m levels place left
@@ -388,14 +392,16 @@ pub +compare-child+compare-children+compare-field+compare-in-order+compare-membe
     (λ c κs. tt)
     (compare-type-returns-2 t)
     (λ c κs. tt)
-    (λ c κs. tt)
-    (λ c κs. tt)
-    (λ c κs. tt)
-    (λ c κs. tt)
     (compare-type-returns-3 t)
+    (λ c κs. tt)
+    (λ c κs. tt)
+    (λ c κs. tt)
+    (λ c κs. tt)
+    (λ c κs. tt)
+    (compare-type-returns-4 t)
     (λ c. omega arith)
     (λ c κs. omega arith)
-    (compare-type-returns-4 t))
+    (compare-type-returns-5 t))
     (λ t. every-member-lts.spec (every-member-calls t)
     (every-member-at t)
     every-member.Post
