@@ -21,6 +21,13 @@ pub const WORK_BYTES_PER_SHEET_BYTE: usize = 4;
 // "answer above 65,535 bytes": an answer is no longer than a sheet may be
 pub const MAX_ANSWER_BYTES: usize = 65535;
 
+// A byte as a number of places.
+pub fn wide(x: u8) -> usize
+    ensures { λ r. ⌜ (r ≡ x) × (r < 256) ⌝ }
+{
+    x as usize
+}
+
 // What every call gives: the number, its place, and how many bytes of the answer buffer are the answer.
 pub struct Outcome {
     pub number: u8,

@@ -31,13 +31,6 @@ const UNION: usize = 33;
 
 const RUN_END_ENCODED: usize = 40;
 
-// A byte as a number of places.
-fn wide(x: u8) -> usize
-    ensures { λ r. ⌜ (r ≡ x) × (r < 256) ⌝ }
-{
-    x as usize
-}
-
 // Whether two heads are equal but for the order flag. Of the maps every other bit counts.
 fn same_head(s: &[u8], a: usize, t: &[u8], b: usize) -> bool
     ensures { λ r. ⌜ ((h g : Head) → Stands (now (s .entry)) a (headBytes h) → Stands (now (t .entry)) b (headBytes g) → r ≡ sameHead h g) ⌝ }
@@ -340,6 +333,6 @@ fn compare_children(
     if by_id(how, code) {
         return compare_members(s, a, t, b, levels, how);
     }
-    let kind = wide(layout::children_kind(code));
+    let kind = buffer::wide(layout::children_kind(code));
     compare_in_order(s, a, t, b, kind, levels, below(how, code))
 }

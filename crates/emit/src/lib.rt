@@ -1,6 +1,7 @@
 // The sheet of the schema that the table spells: document 01, "Merging, projection, filtering and normalising write a sheet." The table
 // refers to the train for names, pairs and types, so most of the sheet is copied from there. The functions take any bytes and any places;
 // where the parts that they are for stand there, they put what the parts spell.
+use sheet::Cursor;
 ghost use mathlib.Core.Path.{_≡_};
 ghost use mathlib.Core.List.{[], _∷_};
 ghost use Prim.Native.Nat.{ℕ, _≤_};
@@ -343,7 +344,7 @@ fn put_columns(s: &[u8], w: &[u8], at: usize, dst: &mut [u8], pos: usize) -> usi
     ensures { λ r. ⌜ PutsColumns (now (s .entry)) (now (w .entry)) at (now (dst .entry)) pos (now (dst .exit)) r ⌝ }
 {
     if has_entries(w, at) {
-        return put_row(s, w, at, walk::LEVELS, dst, pos);
+        return put_row(s, w, at, Cursor::LEVELS, dst, pos);
     }
     pos
 }

@@ -70,13 +70,6 @@ impl Cursor {
     }
 }
 
-// A byte as a number of places.
-fn wide(x: u8) -> usize
-    ensures { λ r. ⌜ (r ≡ x) × (r < 256) ⌝ }
-{
-    x as usize
-}
-
 // A refused item, passed upward with its number and place unchanged.
 fn up(i: Item) -> Step
     ensures { λ r. ⌜ r ≡ upOf i ⌝ }
@@ -97,7 +90,7 @@ fn read_byte(s: &[u8], lim: usize, at: usize) -> Item
     if lim <= at {
         return Item::Refused(9, at);
     }
-    Item::Is(wide(s[at]), at + 1)
+    Item::Is(buffer::wide(s[at]), at + 1)
 }
 
 // A number of two bytes, the low byte first.
@@ -113,8 +106,8 @@ fn read_u16(s: &[u8], lim: usize, at: usize) -> Item
     if lim < at + 2 {
         return Item::Refused(9, at);
     }
-    let low = wide(s[at]);
-    let high = wide(s[at + 1]);
+    let low = buffer::wide(s[at]);
+    let high = buffer::wide(s[at + 1]);
     Item::Is(low + 256 * high, at + 2)
 }
 

@@ -28,13 +28,6 @@ pub enum Merged {
     Clash(u8),
 }
 
-// A byte as a number of places.
-fn wide(x: u8) -> usize
-    ensures { λ r. ⌜ (r ≡ x) × (r < 256) ⌝ }
-{
-    x as usize
-}
-
 // The number of three bytes at a place, the lowest first. Bytes past the end are 0.
 pub fn three(w: &[u8], at: usize) -> usize
     ensures { λ r. ⌜ (r ≡ three (now (w .entry)) at) × (r < 16777216) ⌝ }
@@ -45,7 +38,7 @@ pub fn three(w: &[u8], at: usize) -> usize
     if w.len() - at < 3 {
         return walk::two(w, at);
     }
-    wide(w[at]) + 256 * wide(w[at + 1]) + 65536 * wide(w[at + 2])
+    buffer::wide(w[at]) + 256 * buffer::wide(w[at + 1]) + 65536 * buffer::wide(w[at + 2])
 }
 
 // What stands behind the last place of a row of places, and behind the last entry of a row of entries.

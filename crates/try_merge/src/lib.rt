@@ -46,7 +46,7 @@ fn merge_sheet(s: &[u8], w: &mut [u8], used: usize, q: usize) -> Merged
     };
     let row = table::skip_places(&w[..], 0);
     let columns = walk::find_columns(s, q);
-    field::pour(s, w, kept, row, columns.at, columns.count, walk::LEVELS)
+    field::pour(s, w, kept, row, columns.at, columns.count, Cursor::LEVELS)
 }
 
 // The sheets of a train, one after the other, into the table of the empty schema. It gives the number of sheets, or the clash with the sheet

@@ -1,6 +1,7 @@
 // Going over a sheet that has been read, part by part: document 01, "The sheet", and `DataType::is_nested` of datatype.rs.
 // Nothing here tests the format again. Each function takes any bytes and any place; where the part that it is for stands
 // there, it gives the place behind it. On other bytes its answer means nothing, but nothing goes out of bounds.
+use sheet::Cursor;
 ghost use mathlib.Core.Path.{_≡_};
 ghost use mathlib.Core.List.{_++_};
 ghost use Prim.Native.Nat.{_+_, _*_, _<_, _≤_};
@@ -16,9 +17,6 @@ ghost use Rattle.walk.specs.Stands.{Stands, Skips, SkipsType, SkipsField
 ghost use Rattle.layout.specs.Kinds.{paramsBy};
 ghost use Rattle.walk.specs.Widths.{width};
 
-// The levels that a column may have, the column and its type being the first.
-pub const LEVELS: usize = 32;
-
 // Codes that `is_nested` speaks of, in the order of `DataType`.
 const LIST: usize = 27;
 
@@ -30,13 +28,6 @@ const MAP: usize = 39;
 
 const RUN_END_ENCODED: usize = 40;
 
-// A byte as a number of places.
-fn wide(x: u8) -> usize
-    ensures { λ r. ⌜ (r ≡ x) × (r < 256) ⌝ }
-{
-    x as usize
-}
-
 // The byte at a place, 0 past the end.
 pub fn byte(s: &[u8], at: usize) -> usize
     ensures { λ r. ⌜ (r ≡ getD (now (s .entry)) at 0) × (r < 256) ⌝ }
@@ -44,7 +35,7 @@ pub fn byte(s: &[u8], at: usize) -> usize
     if s.len() <= at {
         return 0;
     }
-    wide(s[at])
+    buffer::wide(s[at])
 }
 
 // The number of two bytes at a place, the low byte first.
@@ -212,7 +203,7 @@ pub fn skip_type(s: &[u8], at: usize, levels: usize) -> usize
 fn skip_children(s: &[u8], at: usize, code: usize, levels: usize) -> usize
     ensures { λ r. ⌜ SkipsChildren (now (s .entry)) at (layout code .children) levels r ⌝ }
 {
-    let kind = wide(layout::children_kind(code));
+    let kind = buffer::wide(layout::children_kind(code));
     if kind < 3 {
         return skip_fields(s, at, kind, levels);
     }
@@ -285,7 +276,7 @@ pub fn skip_sheet(s: &[u8], at: usize) -> usize
     let columns = find_columns(s, at);
     let first = columns.at;
     let count = columns.count;
-    skip_fields(s, first, count, LEVELS)
+    skip_fields(s, first, count, Cursor::LEVELS)
 }
 
 // Copies what stands between two places of a sheet.

@@ -23,3 +23,8 @@ pub use owned::{
     merge_train, normalize, project, project_strict, try_from_fields, try_new,
 };
 pub use refusal::{Counts, Refusal};
+
+/// The example of the repository's README compiles.
+#[cfg(all(doctest, feature = "linked"))]
+#[doc = include_str!("../../../README.md")]
+struct Readme;

@@ -9,10 +9,13 @@ const SHEETS: usize = 8;
 
 /// The sheet of one column `s:Struct` with these Int8 children, whose names are three digits of six bits.
 fn sheet(children: std::ops::Range<usize>, code: u8) -> Vec<u8> {
-    let [low, high] = u16::try_from(children.len()).expect("a count").to_le_bytes();
+    let [low, high] = u16::try_from(children.len())
+        .expect("a count")
+        .to_le_bytes();
     let mut bytes = vec![2, 1, 0, 4, 1, 0, b's', 32, low, high];
     for child in children {
-        let digits = [0, 6, 12].map(|bits| b'0' + u8::try_from(child >> bits & 63).expect("six bits"));
+        let digits =
+            [0, 6, 12].map(|bits| b'0' + u8::try_from(child >> bits & 63).expect("six bits"));
         bytes.extend([4, 3, 0]);
         bytes.extend(digits);
         bytes.push(code);

@@ -34,7 +34,7 @@ use Rattle.layout.proofs.is_plain.Reads as is-plain-reads
 use Rattle.walk.proofs.skip_head.Reads as skip-head-reads
 use Rattle.walk.proofs.skip_params.Reads as skip-params-reads
 use Rattle.walk.proofs.two.Reads as two-reads
-use Rattle.walk.proofs.wide.Reads as wide-reads
+use Rattle.buffer.proofs.wide.Reads as wide-reads
 use Rattle.walk.proofs.+skip_children+skip_field+skip_fields+skip_members+skip_type.{
   statement,
 }

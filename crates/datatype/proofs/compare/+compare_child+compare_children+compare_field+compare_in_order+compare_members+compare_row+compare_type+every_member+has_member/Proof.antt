@@ -46,7 +46,7 @@ use Rattle.datatype.proofs.compare.by_id.Reads as by-id-reads
 use Rattle.datatype.proofs.compare.compare_head.Reads as compare-head-reads
 use Rattle.datatype.proofs.compare.counts_agree.Reads as counts-agree-reads
 use Rattle.datatype.proofs.compare.skip_child.Reads as skip-child-reads
-use Rattle.datatype.proofs.compare.wide.Reads as wide-reads
+use Rattle.buffer.proofs.wide.Reads as wide-reads
 use Rattle.datatype.proofs.metadata.same_stretch.Reads as same-stretch-reads
 use Rattle.layout.proofs.children_kind.Reads as children-kind-reads
 use Rattle.layout.proofs.is_plain.Reads as is-plain-reads
