@@ -3,10 +3,10 @@ use Prim.Native.Nat.{ℕ, suc, _+_, _*_, _≤_, _<_}
 use native.Mathlib.Omega.{arith}
 use mathlib.Core.Path.{_≡_, refl, sym, ap, subst, _∙_}
 use mathlib.Core.List.{List, [], _∷_, _++_, append-assoc, append-nil}
-use mathlib.Core.Bool.{Bool, false}
+use mathlib.Core.Bool.{Bool}
 use mathlib.Core.Logic.{_⊎_, inl, inr}
 use lib.ListN.{length, getD, length-append}
-use Rattle.model.specs.Bytes.{Bytes, Every, sameBytes, u16}
+use Rattle.model.specs.Bytes.{Bytes, Every, u16}
 use Rattle.model.specs.Tree.{DataType, Field, withChildren, List′, LargeList, Struct, layout, table}
 use Rattle.model.specs.Tree.Children.{counted}
 use Rattle.model.specs.Sheet.{each, withCount, fieldBytes, childrenBytes, typeBytes}
@@ -14,9 +14,8 @@ use Rattle.model.specs.WellFormed.{WellFormedParams, WellFormedField, WellForme
 use Rattle.model.specs.Merge as model
 use Rattle.model.specs.Merge.{_>>=_, done, clash, mergeField, mergeType, isNull, pour}
 use Rattle.model.proofs.Gives.{pour-append}
-use Rattle.model.proofs.Grows.{Apart, pour-distinct}
-use Rattle.model.proofs.ByteStrings.{differ-same-bytes}
-use Rattle.model.specs.Growth.{Distinct, names}
+use Rattle.model.proofs.Grows.{distinct-apart, pour-distinct}
+use Rattle.model.specs.Growth.{names}
 use Rattle.model.proofs.WellFormed.{each-every}
 use Rattle.walk.specs.Stands.{Stands}
 use Rattle.walk.proofs.Standing.{byte-stands, stands-behind, skip-ahead}
@@ -68,14 +67,6 @@ module _ (l : ℕ) {s : Bytes} {t m n q : ℕ} (a : DataType (suc l)) (c : Child
   struct-long : length (typeBytes (suc l) a) ≡ 3 + length (each (fieldBytes (typeBytes l)) (a .children))
   unfolding withCount u16
   struct-long = omega (arith, ap length (c .bytes))
-
-distinct-apart : (ns : List Bytes) → Distinct ns → Apart ns
-distinct-apart [] d = tt
-distinct-apart (n ∷ ns) d = (go n ns (d .0), distinct-apart ns (d .1))
-  where
-    go : (n : Bytes) (ms : List Bytes) → Every (λ m. n ≡ m → ⊥) ms → Every (λ m. sameBytes n m ≡ false) ms
-    go n [] h = tt
-    go n (m ∷ ms) h = (differ-same-bytes n m (h .0), go n ms (h .1))
 
 -- a merge of nothing more
 done-same : {A : Type 0} (m : model.Merged A) → (m >>= λ a. done a) ≡ m

@@ -9,34 +9,25 @@ use lib.Seq.{take-at}
 use lib.Dec.{leb}
 use borrow.Author.Tests.{leb-true, leb-false}
 use Rattle.model.specs.Numbers.{maxLevels, maxSheetBytes, maxSheets}
-use Rattle.model.specs.Bytes.{Bytes, Every, sameBytes}
+use Rattle.model.specs.Bytes.{Bytes, Every}
 use Rattle.model.specs.Tree.{DataType, Field, Schema, Null, fields, layout, table}
 use Rattle.model.specs.Sheet.{each, childrenBytes, typeBytes, sheetBytes}
 use Rattle.model.specs.Read.{Step, got, bad, next, readSheet, readTrain}
 use Rattle.model.specs.Merge.{mergeSchema, empty, placed, mergeFrom, tryMerge}
 use Rattle.model.specs.Call.{Answer, bytes, sheetAnswer, mergeAnswer, call}
-use Rattle.model.specs.Growth.{Distinct, names, NoNameTwice, SheetOfDemand3, endToEnd, WroteSheet, Demand3}
+use Rattle.model.specs.Growth.{names, NoNameTwice, SheetOfDemand3, endToEnd, WroteSheet, Demand3}
 use Rattle.model.specs.WellFormed.{WellFormedParams, WellFormedChildren, WellFormedType, WellFormedSchema, Fits, SomeOrder}
 use Rattle.model.proofs.Lists.{every-append, every-map, every-both, each-append}
-use Rattle.model.proofs.ByteStrings.{differ-same-bytes}
 use Rattle.model.proofs.Gives.{placed-holds}
 use Rattle.model.proofs.Steps.{Holds, value, of-got, next-holds, holds-map, got-inv, next-inv}
 use Rattle.model.proofs.WellFormed.{children-types, column-types}
 use Rattle.model.proofs.MergeKeeps.{empty-well-formed, merge-keeps}
 use Rattle.model.proofs.WholeSheets.{sheet-exact, sheet-reads, train-reads, train-too-many}
-use Rattle.model.proofs.Grows.{Apart, Tidy, Standing, SchemaGrew, schema-grows, schema-refl, schema-trans, schema-grown}
+use Rattle.model.proofs.Grows.{distinct-apart, Tidy, Standing, SchemaGrew, schema-grows, schema-refl, schema-trans, schema-grown}
 use Rattle.model.proofs.Calls.{Accepted, accepted-call, call-accepted, then-inv, answer-then, bytes-inv}
 use Rattle.model.proofs.Refusals.{merge-numbered}
 
 -- What reads without refusal and has no struct with a name twice is tidy
-
-distinct-apart : (ns : List Bytes) → Distinct ns → Apart ns
-distinct-apart [] d = tt
-distinct-apart (n ∷ ns) d = (go n ns (d .0), distinct-apart ns (d .1))
-  where
-    go : (n : Bytes) (ms : List Bytes) → Every (λ m. n ≡ m → ⊥) ms → Every (λ m. sameBytes n m ≡ false) ms
-    go n [] h = tt
-    go n (m ∷ ms) h = (differ-same-bytes n m (h .0), go n ms (h .1))
 
 null-alone : (l : ℕ) (o : Bool) (t : DataType (suc l)) → WellFormedType (suc l) o t → t .code ≡ Null → length (typeBytes (suc l) t) ≡ 1
 unfolding typeBytes childrenBytes layout table

@@ -13,8 +13,9 @@ use Rattle.model.specs.Tree.{DataTypeOver, FieldOver, DataType, Field, S
 use Rattle.model.specs.Sheet.{each, part, stands, withCount, textBytes, pairBytes, headBytes, fieldBytes, childrenBytes, typeBytes, columnBytes, sheetBytes}
 use Rattle.model.specs.Equal.{sameType}
 use Rattle.model.specs.Merge.{Merged, done, _>>=_, pour, mergePair, mergeMetadata, mergeByName, mergeChild, mergeField, mergeEach, isNull, mergeSameCode, mergeType, mergeSchema}
-use Rattle.model.specs.Growth.{Begins, here, onto, Pairwise, none, pair, Kept, GrownField, GrownOver, identical, wasNull, struct, list, largeList, union, childBytes, Grown, GrownSchema, names}
-use Rattle.model.proofs.Lists.{or-left, or-right, every-unit}
+use Rattle.model.specs.Growth.{Begins, here, onto, Pairwise, none, pair, Kept, GrownField, GrownOver, identical, wasNull, struct, list, largeList, union, childBytes, Grown, GrownSchema, Distinct, names}
+use Rattle.model.proofs.Lists.{or-left, or-right, every-map, every-unit}
+use Rattle.model.proofs.ByteStrings.{differ-same-bytes}
 use Rattle.model.proofs.Layouts.{struct-children, union-children, list-children}
 use Rattle.model.proofs.Gives.{Gives, value, refusal, bind-gives, need-gives, choose-gives, gives-map, pour-gives, pour-append, choose-true, choose-false}
 
@@ -194,6 +195,10 @@ grows-grown (suc l) n a b h = over-map _ _ (grows-grown l) n a b h
 abbrev pub Apart : List Bytes → Type 0
 Apart [] = Unit {0}
 Apart (n ∷ ns) = Every (λ m. sameBytes n m ≡ false) ns × Apart ns
+
+pub distinct-apart : (ns : List Bytes) → Distinct ns → Apart ns
+distinct-apart [] d = tt
+distinct-apart (n ∷ ns) d = (every-map (λ m. n ≡ m → ⊥) (λ m. sameBytes n m ≡ false) (differ-same-bytes n) ns (d .0), distinct-apart ns (d .1))
 
 abbrev pub Tidy : (l : ℕ) → DataType l → Type 0
 Tidy zero t = ⊥
