@@ -23,11 +23,11 @@ use Rattle.table.specs.declared.Merged.{Merged}
 use Rattle.table.specs.declared.Merged.the-variants.{Used, Clash}
 use Rattle.table.proofs.Numbers.{length-u24}
 use Rattle.table.proofs.Held.{held-stands, held-as}
+use Rattle.table.proofs.Fits.{metadata-fits}
 use Rattle.metadata.specs.Fields.{withMetadata, mergeFieldMetadata}
 use Rattle.metadata.specs.Merges.{MergesMetadata}
 use Rattle.metadata.proofs.Says.{says-in}
 use Rattle.metadata.proofs.Entries.{first-head}
-use Rattle.metadata.proofs.Fits.{metadata-fits}
 use Rattle.field.specs.Claims.{MergesField, MergesRest, MergesType, SetsFlags, mergeRest, withNullable}
 
 -- Nullability and the type

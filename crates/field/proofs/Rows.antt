@@ -29,7 +29,7 @@ use Rattle.table.proofs.Held.{held-length, held-stands, held-as}
 use Rattle.table.proofs.Entries.{SkipsEntries}
 use Rattle.table.proofs.Opening.{field-long}
 use Rattle.table.proofs.Look.{rows-append, rows-snoc, row-begin}
-use Rattle.metadata.proofs.Fits.{field-fits, rows-fit}
+use Rattle.table.proofs.Fits.{field-fits, rows-fit}
 use Rattle.field.specs.Claims.{MergesField, Puts, Hinted, byName}
 
 -- Names

@@ -5,6 +5,5 @@ pub mod Finding
 pub mod Putting
 pub mod Pouring
 pub mod Heads
-pub mod Fits
 pub mod Entries
 pub mod Opening

@@ -28,9 +28,9 @@ use Rattle.metadata.specs.Merges.{SaysRow, SaysEntry, MergesPairs, Marks
 use Rattle.table.specs.Edits.{InsertsPlace}
 use Rattle.metadata.proofs.Says.{says-in}
 use Rattle.table.proofs.Places.{places-none}
+use Rattle.table.proofs.Fits.{type-fits, field-fits}
 use Rattle.metadata.proofs.Pouring.{merge-none}
 use Rattle.metadata.proofs.Heads.{FindsPairs, part-long, part-counted}
-use Rattle.metadata.proofs.Fits.{type-fits, field-fits}
 use Rattle.metadata.proofs.Entries.{flags-is, first-head, is-raw, is-opened, respelt, wider, HasMetadata}
 
 -- what `overwrite` ensures

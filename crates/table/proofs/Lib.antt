@@ -9,5 +9,6 @@ pub mod NewEntries
 pub mod Types
 pub mod Opening
 pub mod Places
+pub mod Fits
 pub mod Sought
 pub mod Pouring

@@ -20,10 +20,10 @@ use Rattle.table.specs.declared.Merged.{Merged}
 use Rattle.table.specs.declared.Merged.the-variants.{Used, Clash}
 use Rattle.table.proofs.Held.{held-stands, held-as}
 use Rattle.table.proofs.Places.{places-fit}
+use Rattle.table.proofs.Fits.{row-fits, field-fits}
 use Rattle.table.proofs.Entries.{refer-small}
 use Rattle.metadata.specs.Merges.{MergesPairs}
 use Rattle.metadata.proofs.Says.{says-in}
-use Rattle.metadata.proofs.Fits.{row-fits, field-fits}
 use Rattle.field.specs.Claims.{Pours}
 use Rattle.try_merge.specs.Claims.{added, MergesSheet}
 
