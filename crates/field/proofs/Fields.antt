@@ -23,10 +23,10 @@ use Rattle.table.specs.declared.Merged.{Merged}
 use Rattle.table.specs.declared.Merged.the-variants.{Used, Clash}
 use Rattle.table.proofs.Numbers.{length-u24}
 use Rattle.table.proofs.Held.{held-stands, held-as}
+use Rattle.table.proofs.Says.{says-in, says-as}
 use Rattle.table.proofs.Fits.{metadata-fits}
 use Rattle.metadata.specs.Fields.{withMetadata, mergeFieldMetadata}
 use Rattle.metadata.specs.Merges.{MergesMetadata}
-use Rattle.metadata.proofs.Says.{says-in}
 use Rattle.metadata.proofs.Entries.{first-head}
 use Rattle.field.specs.Claims.{MergesField, MergesRest, MergesType, SetsFlags, mergeRest, withNullable}
 
@@ -134,11 +134,6 @@ field-parts l f g e = rw e (go (mergeMetadata fieldMetadataClash (f .head .metad
     go (done n) = refl
     go (clash n) = refl
 
--- more room than needed
-pub says-wider : {A : Type 0} (P : ℕ → Bytes → A → Type 0) (b c : ℕ) (x z w : Bytes) (m : model.Merged A) (r : Merged) → b ≤ c → Says P b x z w r m → Says P c x z w r m
-says-wider P b c x z w m (Used u) h t = record { value = t .value; spelt = t .spelt; room = t .room; is = t .is; spells = t .spells; fits = omega (arith, h, t .fits); held = t .held }
-says-wider P b c x z w m (Clash n) h e = e
-
 module _ {s w : Bytes} {used place q m first map other : ℕ} (a : Ahead w place 1 m) (o : first ≡ three w m) (i : map ≡ getD s first 0) (j : other ≡ getD s q 0) where
   -- the order flags of an entry and of a field, as the maps have them
   orders : (l : ℕ) (g : Field l) → Stands s q (fieldBytes (typeBytes l) g) → {k : ℕ} {x y z : Bytes} {f : Field l} → Held w used x y z → place ≡ length x → SpellField l s k y f
@@ -181,6 +176,6 @@ module _ {s w : Bytes} {used place q m first map other : ℕ} (a : Ahead w place
       says = λ l g low v x y z k f held hx e room.
           let t = subst (λ r. Says (λ i v f. SpellField l s i v f) (k + 4 * length (part (withCount pairBytes) (g .head .metadata))) x z w₁ r (mergeFieldMetadata f (g .head .metadata))) c (metadata-said l g v x y z k f held hx e room) in
           let u = rest .says l g low v x (t .spelt) z (t .room) (t .value) (t .held) hx (t .spells) (omega (arith, room, sizes l g, t .fits, mm .sameLength)) in
-          subst (λ m. Says (SpellField l s) (k + 4 * length (fieldBytes (typeBytes l) g)) x z w₂ r m) (sym (ordered-parts l g v held hx e ∙ ap (λ m. m >>= λ h. mergeRest l h g) (t .is)))
-          (says-wider (SpellField l s) (t .room + 4 * length (typeBytes l (g .dataType))) (k + 4 * length (fieldBytes (typeBytes l) g)) x z w₂ (mergeRest l (t .value) g) r (omega (arith, sizes l g, t .fits)) u);
+          says-as (SpellField l s) (t .room + 4 * length (typeBytes l (g .dataType))) (k + 4 * length (fieldBytes (typeBytes l) g)) x z w₂ r (omega (arith, sizes l g, t .fits))
+          (ordered-parts l g v held hx e ∙ ap (λ m. m >>= λ h. mergeRest l h g) (t .is)) u;
     }

@@ -20,8 +20,8 @@ use Rattle.table.specs.Opened.{OpensList}
 use Rattle.table.specs.declared.Merged.{Merged}
 use Rattle.table.proofs.Numbers.{length-u24}
 use Rattle.table.proofs.Held.{held-length, held-as}
+use Rattle.table.proofs.Says.{says-in}
 use Rattle.table.proofs.Opening.{only-child}
-use Rattle.metadata.proofs.Says.{says-in}
 use Rattle.field.specs.Claims.{MergesField, MergesList}
 
 -- the model's merge of the only children

@@ -29,8 +29,8 @@ use Rattle.table.specs.declared.Merged.{Merged}
 use Rattle.table.specs.declared.Merged.the-variants.{Used, Clash}
 use Rattle.table.proofs.Numbers.{length-u24}
 use Rattle.table.proofs.Held.{held-length, held-stands, held-as}
+use Rattle.table.proofs.Says.{says-in}
 use Rattle.table.proofs.Types.{raw-there}
-use Rattle.metadata.proofs.Says.{says-in}
 use Rattle.field.specs.Claims.{OpenStruct, OpensStruct, MergesStruct, Pours, byName}
 
 -- The children of a well-formed struct, as they stand in the train

@@ -11,7 +11,6 @@ use Rattle.model.specs.Numbers.{equalChildClash}
 use Rattle.model.specs.Tree.{FieldOver, Field}
 use Rattle.model.specs.Sheet.{each}
 use Rattle.model.specs.Equal.{sameField, sameType}
-use Rattle.model.specs.Merge as model
 use Rattle.model.specs.Merge.{done, clash, need, _>>=_, mergeChild}
 use Rattle.model.proofs.Lists.{every-append}
 use Rattle.model.proofs.Gives.{choose-true, choose-false}
@@ -24,7 +23,7 @@ use Rattle.table.specs.declared.Merged.the-variants.{Used, Clash}
 use Rattle.table.proofs.Held.{held-length, held-stands, held-as}
 use Rattle.table.proofs.Numbers.{length-u24}
 use Rattle.table.proofs.Places.{length-each-place, refer-length, places-none, places-front, places-join}
-use Rattle.table.proofs.Pouring.{Pouring, pouring-begin, pouring-again, pouring-stop, pouring-done}
+use Rattle.table.proofs.Pouring.{One, Pouring, pouring-again, pouring-stop, pouring-done}
 use Rattle.members.specs.declared.Match.{Match}
 use Rattle.members.specs.declared.Match.the-variants.{SameId, OtherId, Missing}
 use Rattle.members.specs.Rows.{WholeChild, Members, byId, firstEqual}
@@ -110,29 +109,26 @@ module _ {levels : ℕ} {s w : Bytes} {used row q : ℕ} {m : Match} (find : Fin
 
 -- One after the other
 
-pub record Merging (levels : ℕ) (s w₀ w : Bytes) (used row q count end place left : ℕ) : Type 0 where
-  pub same : length w ≡ length w₀
-  pub pouring : (l : ℕ) → l ≤ levels → Pouring (Members l s) (mergeChild (sameType l)) (memberBytes l) (WholeChild l) s w₀ w used row q count end place left
+abbrev pub Merging : (levels : ℕ) (s w₀ w : Bytes) (used row q count end place left : ℕ) → Type 0
+Merging levels s w₀ w used row q count end place left =
+    Pouring (λ l. mergeChild (sameType l)) memberBytes WholeChild levels s row (λ l. Members l s) (MergesMembers levels s w₀ used row q count) (λ l. Members l s) w₀ w end place left
 
 pub merging-begin : {levels : ℕ} {s w : Bytes} (used row q count : ℕ) → Merging levels s w w used row q count used q count
-merging-begin {levels} {s} {w} used row q count = record {
+merging-begin used row q count = record {
   same = refl;
-  pouring = λ l h. pouring-begin (Members l s) (mergeChild (sameType l)) (memberBytes l) (WholeChild l) s w used row q count;
+  rest = λ w′ r m l low. record { says = λ x y z k a bs h hx p st v n small. m l bs low small v n st x y z k a h hx p };
 }
 
-module _ {levels : ℕ} {s w₀ w : Bytes} {used row q count end place left : ℕ} (k : Merging levels s w₀ w used row q count end place left) where
+module _ {levels : ℕ} {s w₀ w : Bytes} {used row q count end place left : ℕ} (t : Merging levels s w₀ w used row q count end place left) where
   module _ {w′ : Bytes} {r : Merged} (more : 0 < left) (merges : (length w′ ≡ length w) × MergesMember levels s w end row place w′ r) where
+    one : One (λ l. mergeChild (sameType l)) memberBytes WholeChild levels s row (λ l. Members l s) (λ l. Members l s) w end place w′ r
+    one l f low small v st x y z k a h hx p = merges .1 l low .says x y z k a f h hx p st v (omega (arith, st .inside, small))
+
     pub merging-again : {next place′ : ℕ} → r ≡ Used next → SkipsMember s place levels place′ → Merging levels s w₀ w′ used row q count next place′ (left - 1)
-    merging-again e skips = record {
-      same = merges .0 ∙ k .same;
-      pouring = λ l h. pouring-again (Members l s) (mergeChild (sameType l)) (memberBytes l) (WholeChild l) s (k .pouring l h) more (merges .1 l h) (merges .0) e λ f v. skips l f h v;
-    }
+    merging-again e skips = pouring-again _ _ _ _ _ _ _ t (λ l. Members l s) more (merges .0) one e skips
 
     pub merging-stop : {c : ℕ} → r ≡ Clash c → (length w′ ≡ length w₀) × MergesMembers levels s w₀ used row q count w′ r
-    merging-stop e = (
-      merges .0 ∙ k .same,
-      λ l h. pouring-stop (Members l s) (mergeChild (sameType l)) (memberBytes l) (WholeChild l) s (k .pouring l h) more (merges .1 l h) e,
-    )
+    merging-stop e = pouring-stop _ _ _ _ _ _ _ t (λ l. Members l s) more (merges .0) one e
 
   pub merging-done : left ≤ 0 → (length w ≡ length w₀) × MergesMembers levels s w₀ used row q count w (Used end)
-  merging-done none = (k .same, λ l h. pouring-done (Members l s) (mergeChild (sameType l)) (memberBytes l) (WholeChild l) s (k .pouring l h) none)
+  merging-done none = pouring-done _ _ _ _ _ _ _ t (λ l k y a p. p) none

@@ -1,5 +1,4 @@
 -- The laws that the proofs of `metadata`, and of its callers, lean on.
-pub mod Says
 pub mod Texts
 pub mod Finding
 pub mod Putting

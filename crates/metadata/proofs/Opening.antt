@@ -11,9 +11,9 @@ use Rattle.model.specs.Numbers.{fieldMetadataClash}
 use Rattle.model.specs.Bytes.{Bytes, Metadata}
 use Rattle.model.specs.Tree.{Head, Field}
 use Rattle.model.specs.Sheet.{each, part, withCount, pairBytes, headBytes}
-use Rattle.model.specs.Merge.{Merged, done, clash, _>>=_, mergeMetadata}
+use Rattle.model.specs.Merge.{Merged, done, clash, _>>=_, mergePair, mergeMetadata}
 use Rattle.model.specs.WellFormed.{Each, WellFormedPair}
-use Rattle.model.proofs.Gives.{Gives, value, of-done}
+use Rattle.model.proofs.Gives.{Gives, value, of-done, pour-none}
 use Rattle.model.proofs.SortedMetadata.{merge-into-none, merge-into-self}
 use Rattle.walk.specs.Stands.{Stands}
 use Rattle.walk.proofs.Parts.{Ahead}
@@ -23,13 +23,12 @@ use Rattle.table.specs.declared.Merged as table
 use Rattle.table.specs.declared.Merged.the-variants.{Used, Clash}
 use Rattle.table.proofs.Numbers.{length-u24}
 use Rattle.table.proofs.Held.{held-as, held-length, held-stands}
+use Rattle.table.proofs.Says.{says-in}
 use Rattle.metadata.specs.Fields.{withMetadata, mergeFieldMetadata, Opened}
 use Rattle.metadata.specs.Merges.{SaysRow, SaysEntry, MergesPairs, Marks, OpensMetadata, MergesMetadata}
 use Rattle.table.specs.Edits.{InsertsPlace}
-use Rattle.metadata.proofs.Says.{says-in}
 use Rattle.table.proofs.Places.{places-none}
 use Rattle.table.proofs.Fits.{type-fits, field-fits}
-use Rattle.metadata.proofs.Pouring.{merge-none}
 use Rattle.metadata.proofs.Heads.{FindsPairs, part-long, part-counted}
 use Rattle.metadata.proofs.Entries.{flags-is, first-head, is-raw, is-opened, respelt, wider, HasMetadata}
 
@@ -157,13 +156,14 @@ kept {w = w} {used = used} l x y z k b f m h e fits i = record {
 module _ {s w : Bytes} {used place q : ℕ} where
   -- none
   pub merges-none : {count first : ℕ} → FindsPairs s q count first → count ≡ 0 → MergesMetadata s w used place q w (Used used)
+  unfolding mergeMetadata
   merges-none p c = record {
     sameLength = refl;
     says = λ l h st sorted small x y z k f held hx e room. kept l x y z k _ f (h .metadata) held e (omega arith) (go (f .head .metadata) (h .metadata) (p h st .count ∙ c));
   }
     where
       go : (m n : Metadata) → length n ≡ 0 → mergeMetadata fieldMetadataClash m n ≡ done m
-      go m [] e = merge-none fieldMetadataClash m
+      go m [] e = pour-none (mergePair fieldMetadataClash) m
       go m (p ∷ n) e = absurd (omega (arith, e))
 
   -- the same

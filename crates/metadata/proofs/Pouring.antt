@@ -8,9 +8,10 @@ use lib.ListN.{length, length-append}
 use Rattle.model.specs.Bytes.{Bytes, Metadata, below}
 use Rattle.model.specs.Sheet.{each, pairBytes}
 use Rattle.model.specs.Merge as model
-use Rattle.model.specs.Merge.{done, clash, _>>=_, pour, mergePair, mergeMetadata}
+use Rattle.model.specs.Merge.{done, clash, _>>=_, mergePair, mergeMetadata}
 use Rattle.model.specs.WellFormed.{Each, WellFormedPair}
 use Rattle.model.proofs.Lists.{each-append, every-append, every-map}
+use Rattle.model.proofs.Gives as gives
 use Rattle.model.proofs.SortedMetadata.{Lower, below-transitive, keys-lower, merge-pair-past}
 use Rattle.walk.specs.Stands.{Stands}
 use Rattle.walk.proofs.Standing.{first-stands, stands-behind}
@@ -79,22 +80,7 @@ pour-begin used row q count number = record {
   };
 }
 
--- The first of those that come
-
-module _ (n : ℕ) (m : Metadata) (p : Bytes × Bytes) (ps : Metadata) where
-  merge-next : (r : Metadata) → mergePair n m p ≡ done r → mergeMetadata n m (p ∷ ps) ≡ mergeMetadata n r ps
-  unfolding mergeMetadata pour _>>=_
-  merge-next r e = ap (λ r. r >>= λ b. pour (mergePair n) b ps) e
-
-  merge-stop : (c : ℕ) → mergePair n m p ≡ clash c → mergeMetadata n m (p ∷ ps) ≡ clash c
-  unfolding mergeMetadata pour _>>=_
-  merge-stop c e = ap (λ r. r >>= λ b. pour (mergePair n) b ps) e
-
-pub merge-none : (n : ℕ) (m : Metadata) → mergeMetadata n m [] ≡ done m
-unfolding mergeMetadata pour
-merge-none n m = refl
-
--- past the pairs below it
+-- The first of those that come, past the pairs below it
 module _ (n : ℕ) (before after : Metadata) (p : Bytes × Bytes) (low : Lower before (p .0)) where
   past-done : (r : Metadata) → mergePair n after p ≡ done r → mergePair n (before ++ after) p ≡ done (before ++ r)
   unfolding _>>=_
@@ -165,6 +151,7 @@ module _ {s w w′ : Bytes} {number from spot end place left : ℕ} {r : Merged}
           }
 
   left-again : {next value place′ : ℕ} → r ≡ Used next → SkipsText s place value → SkipsText s value place′ → Left s w′ number spot next place′ (left - 1) x z b whole
+  unfolding mergeMetadata
   left-again i key value =
       let t = turn in
       let c = t .cut in
@@ -190,14 +177,15 @@ module _ {s w w′ : Bytes} {number from spot end place left : ℕ} {r : Merged}
         stands = stands-behind (pair-skips key value (t .p)) (subst (λ n. Stands s place (each pairBytes n)) (t .rests) (k .stands));
         fits = omega (arith, k .fits, u .fits, t .long, t .total);
         all = omega (arith, k .all, puts .sameLength);
-        is = t .starts ∙ merge-next number ((k .passed ++ c .before) ++ c .after) (t .p) (t .ps) ((k .passed ++ c .before) ++ u .value) (past-done number (k .passed ++ c .before) (c .after) (t .p) (t .low) (u .value) (u .is));
+        is = t .starts ∙ gives.pour-next (mergePair number) ((k .passed ++ c .before) ++ c .after) (t .p) (t .ps) ((k .passed ++ c .before) ++ u .value) (past-done number (k .passed ++ c .before) (c .after) (t .p) (t .low) (u .value) (u .is));
       }
 
   left-stop : {c : ℕ} → r ≡ Clash c → whole ≡ clash c
+  unfolding mergeMetadata
   left-stop {c} i =
       let t = turn in
       let u = t .says i in
-      t .starts ∙ merge-stop number ((k .passed ++ t .cut .before) ++ t .cut .after) (t .p) (t .ps) c (past-clash number (k .passed ++ t .cut .before) (t .cut .after) (t .p) (t .low) c u)
+      t .starts ∙ gives.pour-stop (mergePair number) ((k .passed ++ t .cut .before) ++ t .cut .after) (t .p) (t .ps) c (past-clash number (k .passed ++ t .cut .before) (t .cut .after) (t .p) (t .low) c u)
 
 module _ {s w₀ w w′ : Bytes} {used row q count number from spot end place left : ℕ} (k : Pouring s w₀ w used row q count number from end place left) where
   module _ {r : Merged} (more : 0 < left) (find : FindsKey s w from place spot) (puts : PutsPair s w end spot place number w′ r) where
@@ -218,6 +206,7 @@ module _ {s w₀ w w′ : Bytes} {used row q count number from spot end place le
 
 pub pour-done : {s w₀ w : Bytes} {used row q count number from end place left : ℕ} → Pouring s w₀ w used row q count number from end place left → left ≤ 0
     → MergesPairs s w₀ used row q count number w (Used end)
+unfolding mergeMetadata
 pour-done {s} {w₀} {w} {number = number} {from = from} {end = end} {place = place} {left = left} k none = record {
   sameLength = k .same;
   says = λ new n st sorted small x y z j m h hx pl room. go (k .rest x y z j m new h hx pl n st sorted small room);
@@ -231,7 +220,7 @@ pour-done {s} {w₀} {w} {number = number} {from = from} {end = end} {place = pl
           value = l .passed ++ l .others;
           spelt = each u24 (l .passedPlaces) ++ l .spelt;
           room = 3 * length (l .passedPlaces) + l .room;
-          is = l .is ∙ ap (mergeMetadata number (l .passed ++ l .others)) e ∙ merge-none number (l .passed ++ l .others);
+          is = l .is ∙ ap (mergeMetadata number (l .passed ++ l .others)) e ∙ gives.pour-none (mergePair number) (l .passed ++ l .others);
           spells = places-join (l .refer) (l .places);
           fits = omega (arith, l .fits);
           held = held-as (l .held) (simp append-assoc);

@@ -17,7 +17,7 @@ use Rattle.model.specs.Growth.{Begins, here, onto, Pairwise, none, pair,
 use Rattle.model.proofs.Lists.{or-left, or-right, every-map, every-unit}
 use Rattle.model.proofs.ByteStrings.{differ-same-bytes}
 use Rattle.model.proofs.Layouts.{struct-children, union-children, list-children}
-use Rattle.model.proofs.Gives.{Gives, value, refusal, bind-gives, need-gives, choose-gives, gives-map, pour-gives, pour-append, choose-true, choose-false}
+use Rattle.model.proofs.Gives.{Gives, value, refusal, bind-gives, need-gives, choose-gives, gives-map, pour-gives, pour-next, pour-append, choose-true, choose-false}
 
 -- Lists that begin with others
 
@@ -241,10 +241,10 @@ module _ {T : Type 0} (merge : FieldOver T → FieldOver T → Merged (FieldOver
 
   -- fields of which no two have one name, poured into others so, stand behind them
   pub pour-distinct : (acc xs : List (FieldOver T)) → Apart (names (acc ++ xs)) → pour (mergeByName merge) acc xs ≡ done (acc ++ xs)
-  unfolding pour _>>=_
+  unfolding pour
   pour-distinct acc [] d = ap done (sym (append-nil acc))
   pour-distinct acc (x ∷ xs) d =
-      ap (λ r. r >>= λ b. pour (mergeByName merge) b xs) (put-absent acc x xs d)
+      pour-next (mergeByName merge) acc x xs _ (put-absent acc x xs d)
       ∙ pour-distinct (acc ++ (x ∷ [])) xs (subst (λ l. Apart (names l)) (sym (append-assoc acc (x ∷ []) xs)) d)
       ∙ ap done (append-assoc acc (x ∷ []) xs)
 

@@ -1,6 +1,7 @@
 -- The laws that the proofs of `table`, and of its callers, lean on.
 pub mod Moving
 pub mod Held
+pub mod Says
 pub mod Numbers
 pub mod Marked
 pub mod Entries

@@ -19,11 +19,11 @@ use Rattle.table.specs.Says.{Says}
 use Rattle.table.specs.declared.Merged.{Merged}
 use Rattle.table.specs.declared.Merged.the-variants.{Used, Clash}
 use Rattle.table.proofs.Held.{held-stands, held-as}
+use Rattle.table.proofs.Says.{says-in}
 use Rattle.table.proofs.Places.{places-fit}
 use Rattle.table.proofs.Fits.{row-fits, field-fits}
 use Rattle.table.proofs.Entries.{refer-small}
 use Rattle.metadata.specs.Merges.{MergesPairs}
-use Rattle.metadata.proofs.Says.{says-in}
 use Rattle.field.specs.Claims.{Pours}
 use Rattle.try_merge.specs.Claims.{added, MergesSheet}
 

@@ -1,9 +1,8 @@
 -- A field, its type, and what the type holds. The levels left fall from a type to what it holds, and each function calls on one that stands before it at equal levels.
 use native.Mathlib.Omega.{arith}
 use borrow.Author.Needs.{needs}
-use mathlib.Core.Path.{_≡_, refl, _∙_}
+use mathlib.Core.Path.{refl, _∙_}
 use Prim.Native.Nat.{_+_, _*_}
-use lib.ListN.{length}
 use Rattle.field.proofs.Fields.{rest-merged, field-ordered, field-stopped, field-merged}
 use Rattle.field.proofs.Types.{type-taken, type-kept, type-clash, type-same, no-level, same-struct, same-union, same-list, same-other}
 use Rattle.field.proofs.Lists.{list-merged}
@@ -171,7 +170,7 @@ abbrev put-calls : ℕ → put-lts.Claims
 put-calls t = (find-reads.Asked, find-reads.Learnt, merge-field-below t, merge-field.Post, next-entry-reads.Asked, next-entry-reads.Learnt, insert-entry-reads.Asked, insert-entry-reads.Learnt)
 
 abbrev pour-Inv-loop : pour-lts.InvT-loop
-pour-Inv-loop s w₀ used row q count levels held₀ hint₀ place₀ left₀ w held hint place left = Pouring levels s w₀ w used row q count held hint place left × (length w ≡ length w₀)
+pour-Inv-loop s w₀ used row q count levels held₀ hint₀ place₀ left₀ w held hint place left = Pouring levels s w₀ w used row q count held hint place left
 
 abbrev pour-μ-loop : pour-lts.MeasureT-loop
 pour-μ-loop s w₀ used row q count levels held₀ hint₀ place₀ left₀ w held hint place left = left
@@ -225,19 +224,19 @@ merge-type-returns-4 : (t : ℕ) → merge-type-lts.Need-returns-4 (merge-type-c
 merge-type-returns-4 t c = let m = c .before .before .merge-same-code .ensures in (m .0, type-same (c .before .before .before .before .before .before .before .before .code-at .ensures) (c .before .before .before .before .before .before .before .byte .ensures .0) (c .before .before .before .before .before .before .if1 .left) (c .before .before .before .before .before .if2 .left) (c .before .before .before .before .if3 .left) (m .1))
 
 pour-loop-holds : (t : ℕ) → pour-lts.Need-loop-holds (pour-calls t) (pour-at t) pour.Post pour-Inv-loop pour-μ-loop
-pour-loop-holds t c = (pouring-begin _ _ _ _ _ _ _, refl)
+pour-loop-holds t c = pouring-begin _ _ _ _ _ _ _
 
 pour-returns : (t : ℕ) → pour-lts.Need-returns (pour-calls t) (pour-at t) pour.Post pour-Inv-loop pour-μ-loop
-pour-returns t c = let p = c .before .before .before .before .put .ensures in let l = c .before .before .before .before .before .before .before .loop .inv in (p .0 ∙ l .1, pouring-stop (l .0) (c .before .before .before .before .before .before .loop-test .taken) (p .1) (c .enum-told .given .1))
+pour-returns t c = pouring-stop (c .before .before .before .before .before .before .before .loop .inv) (c .before .before .before .before .before .before .loop-test .taken) (c .before .before .before .before .put .ensures) (c .enum-told .given .1)
 
 pour-loop-less : (t : ℕ) → pour-lts.Need-loop-less (pour-calls t) (pour-at t) pour.Post pour-Inv-loop pour-μ-loop
 pour-loop-less t c = omega (arith, c .before .before .before .before .before .before .before .before .loop-test .taken)
 
 pour-loop-again : (t : ℕ) → pour-lts.Need-loop-again (pour-calls t) (pour-at t) pour.Post pour-Inv-loop pour-μ-loop
-pour-loop-again t c = let p = c .before .before .before .before .before .before .put .ensures in let l = c .before .before .before .before .before .before .before .before .before .loop .inv in (pouring-again (l .0) (c .before .before .before .before .before .before .before .before .loop-test .taken) (p .1) (p .0) (c .before .before .merged .given .1) (c .skip-field .ensures), p .0 ∙ l .1)
+pour-loop-again t c = pouring-again (c .before .before .before .before .before .before .before .before .before .loop .inv) (c .before .before .before .before .before .before .before .before .loop-test .taken) (c .before .before .before .before .before .before .put .ensures) (c .before .before .merged .given .1) (c .skip-field .ensures)
 
 pour-returns-2 : (t : ℕ) → pour-lts.Need-returns-2 (pour-calls t) (pour-at t) pour.Post pour-Inv-loop pour-μ-loop
-pour-returns-2 t c = let l = c .before .loop .inv in (l .1, pouring-done (l .0) (c .loop-test .left))
+pour-returns-2 t c = pouring-done (c .before .loop .inv) (c .loop-test .left)
 
 pour-own-returns : (t : ℕ) → pour-own-lts.Need-returns (pour-own-calls t) (pour-own-at t) pour-own.Post
 pour-own-returns t c = (refl, struct-open (c .before .byte .ensures .0) (c .if1 .taken))
