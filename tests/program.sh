@@ -71,6 +71,9 @@ check "./run: the stored example is P3" "0 0 0201000501007604" ./run </dev/null
 check "./run: files, P5" "20 1 -" ./run examples/parked.sheet examples/ordered.sheet </dev/null
 check "./run: files of the folder that it is called in" "0 0 0201000501007604" env -C examples ../run driven.sheet parked.sheet </dev/null
 check "./run: standard input, then a file" "0 0 0201000501007604" ./run - examples/driven.sheet <examples/parked.sheet
+# the sheet 00 after the cut one would be taken for its last byte
+check "./run: a file that is cut" "1 7 -" ./run <(sheet '') <(printf '\x00') </dev/null
+check "./run: a file behind a clash is read" "2 25 -" ./run examples/driven.sheet examples/ordered.sheet <(printf '\x02\x01\x00\x04\x01\x00v\x29') </dev/null
 
 # quiet WHAT: the program ran and had no line to print, or could not print it: nothing is printed, and standard error says why
 quiet() {

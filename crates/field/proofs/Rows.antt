@@ -3,7 +3,7 @@ use Prim.Native.Nat.{ℕ, _+_, _*_, _≤_}
 use native.Mathlib.Omega.{arith}
 use mathlib.Core.Path.{_≡_, refl, sym, ap, subst, _∙_}
 use mathlib.Core.List.{List, [], _∷_, _++_, append-assoc}
-use mathlib.Core.Bool.{Bool, true, false, Bool·beq}
+use mathlib.Core.Bool.{true, false, Bool·beq}
 use lib.ListN.{length, length-append}
 use Rattle.model.specs.Numbers.{orderedClash, fieldMetadataClash}
 use Rattle.model.specs.Bytes.{Bytes, Every, choose, sameBytes}
