@@ -87,6 +87,26 @@ module _ {A : Type 0} (W : A → Type 0) (f : A → Bytes) (eq : A → A → Boo
       out : {answer : Bool} → Left place other left answer → false ≡ answer
       out {answer} k = go answer (k .xs) (k .ys) (k .count) (k .count′) (k .good) (k .good′) (k .stands) (k .stands′) (k .rest)
 
+  -- of one that is left, the verdict is that of all
+  pub rounds-last : {a b count place other left : ℕ} {r : Bool} → Rounds a b count place other left → left ≡ 1 → Compares place other r → Verdict a b count r
+  unfolding same
+  rounds-last {a} {b} {count} {place} {other} {left} {r} k h c xs ys n m w w′ st st′ = out (k .rest xs ys n m w w′ st st′)
+    where
+      alone : (b : Bool) → b ≡ (b && true)
+      alone true = refl
+      alone false = refl
+
+      go : (answer : Bool) (xs ys : List A) → length xs ≡ left → length ys ≡ left → Every W xs → Every W ys → Stands s place (each f xs) → Stands t other (each f ys)
+          → same eq xs ys ≡ answer → r ≡ answer
+      go answer [] ys n m w w′ st st′ i = absurd (omega (arith, n, h))
+      go answer (x ∷ xs) [] n m w w′ st st′ i = absurd (omega (arith, m, h))
+      go answer (x ∷ []) (y ∷ []) n m w w′ st st′ i = c x y (w .0) (w′ .0) (first-stands (f x) [] st) (first-stands (f y) [] st′) ∙ alone (eq x y) ∙ i
+      go answer (x ∷ []) (y ∷ z ∷ ys) n m w w′ st st′ i = absurd (omega (arith, m, h))
+      go answer (x ∷ z ∷ xs) (y ∷ ys) n m w w′ st st′ i = absurd (omega (arith, n, h))
+
+      out : {answer : Bool} → Left place other left answer → r ≡ answer
+      out {answer} k = go answer (k .xs) (k .ys) (k .count) (k .count′) (k .good) (k .good′) (k .stands) (k .stands′) (k .rest)
+
   pub rounds-done : {a b count place other left : ℕ} → Rounds a b count place other left → left ≤ 0 → Verdict a b count true
   unfolding same
   rounds-done {a} {b} {count} {place} {other} {left} k h xs ys n m w w′ st st′ = out (k .rest xs ys n m w w′ st st′)

@@ -203,7 +203,8 @@ fn compare_child(
     )
 }
 
-// So many children one behind the other, each with the one at its position. A loop: a thousand take no more stack than one.
+// So many children one behind the other, each with the one at its position. A loop: a thousand take no more stack than one. The last decides,
+// and the place behind it is not looked for: so structs of one child inside one another are gone over once.
 pub fn compare_row(
     s: &[u8],
     a: usize,
@@ -219,7 +220,7 @@ pub fn compare_row(
     let mut place = a;
     let mut other = b;
     let mut left = count;
-    while 0 < left {
+    while 1 < left {
         if !compare_child(s, place, t, other, kind, levels, how) {
             return false;
         }
@@ -227,7 +228,10 @@ pub fn compare_row(
         other = skip_child(t, other, kind, levels);
         left -= 1;
     }
-    true
+    if left == 0 {
+        return true;
+    }
+    compare_child(s, place, t, other, kind, levels, how)
 }
 
 // The children of two types of one code, by position.

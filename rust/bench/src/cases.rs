@@ -22,6 +22,11 @@ pub(crate) fn nested() -> Vec<Case> {
     on(inputs::nested(100, 10).into(), 100, 1000)
 }
 
+/// Every operation on a sheet as deep as one can be, with 500 fields at its bottom.
+pub(crate) fn deep() -> Vec<Case> {
+    on(inputs::deep(31, 500).into(), 1, 500)
+}
+
 /// Every operation on this sheet, which has so many columns and leaves.
 fn on(sheet: Rc<[u8]>, columns: usize, leaves: usize) -> Vec<Case> {
     let reading = Case {
@@ -214,10 +219,11 @@ mod tests {
     fn both_sides_agree_on_every_case() {
         let mut cases = flat();
         cases.extend(nested());
+        cases.extend(deep());
         cases.extend(numberings());
         cases.extend(merges());
         cases.extend(Order::BOTH.map(|order| growth(GROWTH[0], order)));
-        assert_eq!(cases.len(), 2 * 12 + 2 + 5 + 2);
+        assert_eq!(cases.len(), 3 * 12 + 2 + 5 + 2);
         for case in cases {
             assert!(case.agrees(), "{}, {} bytes", case.title, case.bytes);
         }

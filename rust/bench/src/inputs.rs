@@ -62,6 +62,16 @@ pub(crate) fn nested(structs: usize, fields: usize) -> Vec<u8> {
     sheet((0..structs).map(structure).collect())
 }
 
+/// A column of so many structs inside one another, and so many plain fields in the innermost. The inner structs have
+/// names of one byte, so that a normalised sheet is not too long.
+pub(crate) fn deep(structs: usize, fields: usize) -> Vec<u8> {
+    let around = |name, children| Field::new(name, DataType::Struct(Fields::from(children)), false);
+    let inner = (1..structs).fold(columns(0..fields), |children, _| {
+        vec![around("s".to_owned(), children)]
+    });
+    sheet(vec![around(name(0), inner)])
+}
+
 /// Whether the columns of a second sheet come in the order of the first.
 #[derive(Clone, Copy, Debug, PartialEq, Eq)]
 pub(crate) enum Order {
@@ -156,6 +166,10 @@ mod tests {
         assert_eq!(counts(&flat(1000)), [1000]);
         assert_eq!(counts(&nested(100, 10)), [100]);
         assert_eq!(operations::leaf_count(&nested(100, 10)), Ok(1000));
+        assert_eq!(counts(&deep(31, 500)), [1]);
+        assert_eq!(operations::leaf_count(&deep(31, 500)), Ok(500));
+        assert!(read::train(&deep(32, 500)).is_err());
+        assert!(operations::normalize(&deep(31, 500), b".", 0).is_ok());
         for order in Order::BOTH {
             assert_eq!(counts(&twice(1000, order)), [1000; 2]);
             assert_eq!(merged(&twice(1000, order)), 1000);

@@ -49,6 +49,10 @@ pub(crate) fn print() -> ExitCode {
 fn tables() -> Result<(), Differ> {
     table("A flat sheet of 1000 columns", cases::flat())?;
     table("A nested sheet: 100 structs of 10", cases::nested())?;
+    table(
+        "A deep sheet: 31 structs inside one another, 500 fields in the innermost",
+        cases::deep(),
+    )?;
     table("Union numberings", cases::numberings())?;
     table("Merging, names of twenty bytes", cases::merges())?;
     println!("\n## How merging grows: two sheets of so many columns, names of four bytes\n");

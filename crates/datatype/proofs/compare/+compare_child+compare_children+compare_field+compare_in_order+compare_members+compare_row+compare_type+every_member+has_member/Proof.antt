@@ -8,7 +8,7 @@ use Rattle.model.specs.WellFormed.{Child}
 use Rattle.model.proofs.Whole.{whole-laid-out}
 use Rattle.datatype.specs.Children.{childBytes}
 use Rattle.datatype.specs.Comparisons.{compareChild}
-use Rattle.datatype.proofs.Rows.{Rounds, rounds-begin, rounds-again, rounds-stop, rounds-done}
+use Rattle.datatype.proofs.Rows.{Rounds, rounds-begin, rounds-again, rounds-stop, rounds-last, rounds-done}
 use Rattle.datatype.proofs.Children.{fields-heads, fields-types, pairs-types, pairs-fields, pairs-ids, pairs-members, order-fields, order-types, order-counts, order-rows, members-counts, members-every, kids-members, kids-order}
 use Rattle.datatype.proofs.Members.{One, one-begin, one-again, one-found, one-none, EachOne, each-begin, each-again, each-stop, each-done}
 use Rattle.datatype.proofs.Types.{no-types, types-codes, types-plain, types-params, types-kids}
@@ -222,7 +222,7 @@ compare-row-loop-holds : (t : ℕ) → compare-row-lts.Need-loop-holds (compare-
 compare-row-loop-holds t c = λ l h. rounds-begin _ _ _ _ _ _ _ _
 
 compare-row-returns : (t : ℕ) → compare-row-lts.Need-returns (compare-row-calls t) (compare-row-at t) compare-row.Post compare-row-Inv-loop compare-row-μ-loop
-compare-row-returns t c = let k = c .before in let n = k .before in λ l js ks h. rounds-stop _ _ _ _ _ (n .before .loop .inv l h) (n .loop-test .taken) (λ x y. k .compare-child .ensures l x y h) (not-true _ (c .if1 .taken)) js ks
+compare-row-returns t c = let k = c .before in let n = k .before in λ l js ks h. rounds-stop _ _ _ _ _ (n .before .loop .inv l h) (omega (arith, n .loop-test .taken)) (λ x y. k .compare-child .ensures l x y h) (not-true _ (c .if1 .taken)) js ks
 
 compare-row-sub-left : (t : ℕ) → compare-row-lts.Need-sub-left (compare-row-calls t) (compare-row-at t) compare-row.Post compare-row-Inv-loop compare-row-μ-loop
 compare-row-sub-left t c = omega (arith, c .before .before .before .before .loop-test .taken)
@@ -231,10 +231,13 @@ compare-row-loop-less : (t : ℕ) → compare-row-lts.Need-loop-less (compare-ro
 compare-row-loop-less t c = omega (arith, c .before .before .before .before .loop-test .taken)
 
 compare-row-loop-again : (t : ℕ) → compare-row-lts.Need-loop-again (compare-row-calls t) (compare-row-at t) compare-row.Post compare-row-Inv-loop compare-row-μ-loop
-compare-row-loop-again t c = let p = c .before in let i = p .before in let k = i .before in let n = k .before in λ l h. rounds-again _ _ _ _ _ (n .before .loop .inv l h) (n .loop-test .taken) (λ x y. k .compare-child .ensures l x y h) (not-false _ (i .if1 .left)) (λ x w. p .skip-child .ensures l x h (whole-laid-out l (x .dataType) (w .1))) (λ y w. c .skip-child2 .ensures l y h (whole-laid-out l (y .dataType) (w .1)))
+compare-row-loop-again t c = let p = c .before in let i = p .before in let k = i .before in let n = k .before in λ l h. rounds-again _ _ _ _ _ (n .before .loop .inv l h) (omega (arith, n .loop-test .taken)) (λ x y. k .compare-child .ensures l x y h) (not-false _ (i .if1 .left)) (λ x w. p .skip-child .ensures l x h (whole-laid-out l (x .dataType) (w .1))) (λ y w. c .skip-child2 .ensures l y h (whole-laid-out l (y .dataType) (w .1)))
 
 compare-row-returns-2 : (t : ℕ) → compare-row-lts.Need-returns-2 (compare-row-calls t) (compare-row-at t) compare-row.Post compare-row-Inv-loop compare-row-μ-loop
-compare-row-returns-2 t c = λ l js ks h. rounds-done _ _ _ _ _ (c .before .loop .inv l h) (c .loop-test .left) js ks
+compare-row-returns-2 t c = λ l js ks h. rounds-done _ _ _ _ _ (c .before .before .loop .inv l h) (omega (arith, c .if2 .taken)) js ks
+
+compare-row-returns-3 : (t : ℕ) → compare-row-lts.Need-returns-3 (compare-row-calls t) (compare-row-at t) compare-row.Post compare-row-Inv-loop compare-row-μ-loop
+compare-row-returns-3 t c = let i = c .before in let n = i .before in λ l js ks h. rounds-last _ _ _ _ _ (n .before .loop .inv l h) (omega (arith, n .loop-test .left, i .if2 .left)) (λ x y. c .compare-child2 .ensures l x y h) js ks
 
 compare-type-returns : (t : ℕ) → compare-type-lts.Need-returns (compare-type-calls t) (compare-type-at t) compare-type.Post
 compare-type-returns t c = no-types _ _ _ (c .if1 .taken)
@@ -383,7 +386,9 @@ pub +compare-child+compare-children+compare-field+compare-in-order+compare-membe
     (compare-row-sub-left t)
     (compare-row-loop-less t)
     (compare-row-loop-again t)
-    (compare-row-returns-2 t))
+    (compare-row-returns-2 t)
+    (λ c κs. omega arith)
+    (compare-row-returns-3 t))
     (λ t. compare-type-lts.spec (compare-type-calls t)
     (compare-type-at t)
     compare-type.Post
