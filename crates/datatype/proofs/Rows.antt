@@ -10,6 +10,10 @@ use Rattle.model.specs.Sheet.{each}
 use Rattle.walk.specs.Stands.{Stands, Skips}
 use Rattle.walk.proofs.Standing.{first-stands, stands-behind}
 
+pub alone : (b : Bool) → (b && true) ≡ b
+alone true = refl
+alone false = refl
+
 module _ {A : Type 0} (W : A → Type 0) (f : A → Bytes) (eq : A → A → Bool) (s t : Bytes) where
   -- so many of each are left at the two places; whether they are equal is the answer
   record Left (place other left : ℕ) (answer : Bool) : Type 0 where
@@ -92,15 +96,11 @@ module _ {A : Type 0} (W : A → Type 0) (f : A → Bytes) (eq : A → A → Boo
   unfolding same
   rounds-last {a} {b} {count} {place} {other} {left} {r} k h c xs ys n m w w′ st st′ = out (k .rest xs ys n m w w′ st st′)
     where
-      alone : (b : Bool) → b ≡ (b && true)
-      alone true = refl
-      alone false = refl
-
       go : (answer : Bool) (xs ys : List A) → length xs ≡ left → length ys ≡ left → Every W xs → Every W ys → Stands s place (each f xs) → Stands t other (each f ys)
           → same eq xs ys ≡ answer → r ≡ answer
       go answer [] ys n m w w′ st st′ i = absurd (omega (arith, n, h))
       go answer (x ∷ xs) [] n m w w′ st st′ i = absurd (omega (arith, m, h))
-      go answer (x ∷ []) (y ∷ []) n m w w′ st st′ i = c x y (w .0) (w′ .0) (first-stands (f x) [] st) (first-stands (f y) [] st′) ∙ alone (eq x y) ∙ i
+      go answer (x ∷ []) (y ∷ []) n m w w′ st st′ i = c x y (w .0) (w′ .0) (first-stands (f x) [] st) (first-stands (f y) [] st′) ∙ sym (alone (eq x y)) ∙ i
       go answer (x ∷ []) (y ∷ z ∷ ys) n m w w′ st st′ i = absurd (omega (arith, m, h))
       go answer (x ∷ z ∷ xs) (y ∷ ys) n m w w′ st st′ i = absurd (omega (arith, n, h))
 

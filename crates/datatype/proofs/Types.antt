@@ -25,7 +25,7 @@ use Rattle.datatype.specs.Comparisons.{PairsAt, compareType, compareFiel
 use Rattle.datatype.proofs.Texts.{Stretches, Contained}
 use Rattle.datatype.proofs.Comparisons.{plain-row, other-codes, other-params, children-decide}
 use Rattle.datatype.proofs.Children.{Types, Kids, Rows}
-use Rattle.datatype.proofs.Rows.{counts-differ}
+use Rattle.datatype.proofs.Rows.{alone, counts-differ}
 
 -- what `skip_params` ensures
 abbrev Params : Bytes → ℕ → ℕ → ℕ → Type 0
@@ -136,10 +136,6 @@ abbrev besides : Comparison → Metadata → Metadata → Bool
 besides Equal m n = true
 besides EqualsDatatype m n = true
 besides Contains m n = containsMetadata m n
-
-alone : (b : Bool) → (b && true) ≡ b
-alone true = refl
-alone false = refl
 
 schema-parts : (how : Comparison) (x y : Schema) → Every (Child 32 counted) (x .columns) → Every (Child 32 counted) (y .columns)
     → (same (compareChild how 32) (x .columns) (y .columns) && besides how (x .metadata) (y .metadata)) ≡ compareSchema how x y

@@ -13,6 +13,7 @@ use Rattle.model.specs.WellFormed.{Fits}
 use Rattle.model.specs.Read as read
 use Rattle.model.specs.Read.{got, bad, next}
 use Rattle.model.specs.Merge.{Merged, done, clash, empty, mergeSchema, placed, mergeFrom, tryMerge}
+use Rattle.model.proofs.Lists.{empty-list}
 use Rattle.model.proofs.WellFormed.{columns-laid-out}
 use Rattle.walk.specs.Stands.{Stands, SkipsSheet}
 use Rattle.walk.proofs.Standing.{whole-stands, first-stands, second-stands}
@@ -126,10 +127,6 @@ module _ {s w₀ w : Bytes} {used place sheet : ℕ} (m : Merging s w₀ w used 
   none-left : (ys : List Schema) → length (each sheetBytes ys) ≡ 0 → ys ≡ []
   none-left [] e = refl
   none-left (y ∷ ys) e = absurd (omega (arith, e, sheet-size y, length-append (sheetBytes y) (each sheetBytes ys)))
-
-  empty-list : (ys : List Schema) → length ys ≡ 0 → ys ≡ []
-  empty-list [] e = refl
-  empty-list (y ∷ ys) e = absurd (omega (arith, e))
 
   pub merging-ended : length s ≤ place → MergesSheets s w₀ w (Step.Next sheet)
   merging-ended h = record {
