@@ -54,12 +54,24 @@ uint8_t sheets_try_from_fields(uint16_t count,
                                uint8_t *answer, size_t answer_length,
                                size_t *place, size_t *length);
 
+/* The mode of a merge: what it does where a column is Null in one sheet and an ordered dictionary in another,
+ * as when a log was begun with the chair parked. Everything else is the same in both modes.
+ *
+ * SHEETS_AS_THE_RUST, 0: the order flags differ, so the train is refused with 20.
+ * SHEETS_PARKED_FIRST, 1 and every other value: a Null's order flag is not compared, and the column becomes the
+ * ordered dictionary, nullable. So too for the children of structs, lists and large lists. Two dictionaries of
+ * which one is ordered are still refused with 20.
+ *
+ * No value is refused. Use one mode for all merges of a table. */
+#define SHEETS_AS_THE_RUST 0
+#define SHEETS_PARKED_FIRST 1
+
 /* The merge: one sheet out of a train, its sheets end to end. A clash has the sheet's number, from 0, for its
  * place. */
 uint8_t sheets_merge(const uint8_t *train, size_t train_length,
                      uint8_t *work, size_t work_length,
                      uint8_t *answer, size_t answer_length,
-                     size_t *place, size_t *length);
+                     size_t *place, size_t *length, uint8_t mode);
 
 /* Schemas: the position of the first column of a name, two bytes, the lower first. */
 uint8_t sheets_index_of(const uint8_t *sheet, size_t sheet_length,

@@ -158,19 +158,29 @@ static void shapes(void) {
 static void merges(void) {
     static const uint8_t parked_then_driven[] = {2, 1, 0, 4, 1, 0, 'v', 0, 2, 1, 0, 4, 1, 0, 'v', 4};
     static const uint8_t parked_then_ordered[] = {2, 1, 0, 4, 1, 0, 'v', 0, 2, 1, 0, 6, 1, 0, 'v', 34, 2, 24};
+    static const uint8_t ordered_then_plain[] = {2, 1, 0, 6, 1, 0, 'v', 34, 2, 24, 2, 1, 0, 4, 1, 0, 'v', 4};
+    static const uint8_t nullable_ordered[] = {2, 1, 0, 7, 1, 0, 'v', 34, 2, 24};
     static const uint8_t empty[] = {0};
     accepted("merge: P1, no sheets",
-             sheets_merge(empty, 0, LENT(0, 1)), 0, BYTES(empty));
+             sheets_merge(empty, 0, LENT(0, 1), SHEETS_AS_THE_RUST), 0, BYTES(empty));
     accepted("merge: P2, the parked log alone",
-             sheets_merge(parked_then_driven, 8, LENT(32, 8)), 32, parked_then_driven, 8);
+             sheets_merge(parked_then_driven, 8, LENT(32, 8), SHEETS_AS_THE_RUST), 32, parked_then_driven, 8);
     accepted("merge: P3, the parked log comes first",
-             sheets_merge(BYTES(parked_then_driven), LENT(64, 8)), 64, BYTES(nullable));
+             sheets_merge(BYTES(parked_then_driven), LENT(64, 8), SHEETS_AS_THE_RUST), 64, BYTES(nullable));
+    accepted("merge, parked log first: P3 is the same",
+             sheets_merge(BYTES(parked_then_driven), LENT(64, 8), SHEETS_PARKED_FIRST), 64, BYTES(nullable));
     refused("merge: P5, then an ordered dictionary",
-            sheets_merge(BYTES(parked_then_ordered), LENT(72, ANSWER)), 72, 20, 1);
+            sheets_merge(BYTES(parked_then_ordered), LENT(72, ANSWER), SHEETS_AS_THE_RUST), 72, 20, 1);
+    accepted("merge, parked log first: P5 gives a nullable ordered dictionary",
+             sheets_merge(BYTES(parked_then_ordered), LENT(72, 10), SHEETS_PARKED_FIRST), 72, BYTES(nullable_ordered));
+    accepted("merge, mode 255: it is parked log first",
+             sheets_merge(BYTES(parked_then_ordered), LENT(72, 10), 255), 72, BYTES(nullable_ordered));
+    refused("merge, parked log first: an ordered dictionary, then another type",
+            sheets_merge(BYTES(ordered_then_plain), LENT(72, ANSWER), SHEETS_PARKED_FIRST), 72, 20, 1);
     refused("merge: an answer buffer one byte short",
-            sheets_merge(BYTES(parked_then_driven), LENT(64, 7)), 64, 31, 0);
+            sheets_merge(BYTES(parked_then_driven), LENT(64, 7), SHEETS_AS_THE_RUST), 64, 31, 0);
     refused("merge: a work buffer one byte short",
-            sheets_merge(BYTES(parked_then_driven), LENT(63, 8)), 0, 32, 0);
+            sheets_merge(BYTES(parked_then_driven), LENT(63, 8), SHEETS_AS_THE_RUST), 0, 32, 0);
 }
 
 int main(void) {

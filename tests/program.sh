@@ -1,20 +1,21 @@
 #!/usr/bin/env bash
 # The program merge, run as it is: what it prints for trains that come by a pipe, by a file and in pieces. The proofs give the line for what
-# was read; this tries what they leave to the program: reading to the end or to the 16,001st byte, and writing the whole line. And the
-# command ./run, which gives it the bytes of files.
+# was read; this tries what they leave to the program: reading to the end or to the 16,001st byte, and writing the whole line. The program
+# merge_parked differs in its mode alone. And the command ./run, which gives either the bytes of files.
 # The last line is 'N passed, M failed'; the status is 0 only where M is 0.
 set -u
 cd "$(dirname "$0")/.." || exit 1
 program=target/bin/merge
+parked=target/bin/merge_parked
 passed=0
 failed=0
 wanted=$(mktemp) || exit 1
 printed=$(mktemp) || exit 1
 trap 'rm -f "$wanted" "$printed"' EXIT
 
-# proves and builds the program and what it is made of, where that has changed since
-if ! rt check merge || [ ! -x "$program" ]; then
-  echo "FAILED: the program was not built"
+# proves and builds the programs and what they are made of, where that has changed since
+if ! rt check merge merge_parked || [ ! -x "$program" ] || [ ! -x "$parked" ]; then
+  echo "FAILED: the programs were not built"
   echo "0 passed, 1 failed"
   exit 1
 fi
@@ -67,8 +68,14 @@ check "16,001 bytes" "35 0 -" < <(long 16001)
 check "16,001 bytes in two pieces" "35 0 -" < <(long 16001 | head -c 16000; sleep 0.2; printf '\x00')
 check "more than a buffer of bytes" "35 0 -" < <(head -c 1000000 /dev/zero)
 
+check "P5: Null, then an ordered dictionary" "20 1 -" < <(cat examples/parked.sheet examples/ordered.sheet)
+check "P5, parked log first" "0 0 02010007010076220218" "$parked" < <(cat examples/parked.sheet examples/ordered.sheet)
+check "16,001 bytes, parked log first" "35 0 -" "$parked" < <(long 16001)
+
 check "./run: the stored example is P3" "0 0 0201000501007604" ./run </dev/null
 check "./run: files, P5" "20 1 -" ./run examples/parked.sheet examples/ordered.sheet </dev/null
+check "./run: files, P5 parked log first" "0 0 02010007010076220218" ./run --parked-first examples/parked.sheet examples/ordered.sheet </dev/null
+check "./run: the stored example, parked log first" "0 0 0201000501007604" ./run --parked-first </dev/null
 check "./run: files of the folder that it is called in" "0 0 0201000501007604" env -C examples ../run driven.sheet parked.sheet </dev/null
 check "./run: standard input, then a file" "0 0 0201000501007604" ./run - examples/driven.sheet <examples/parked.sheet
 # the sheet 00 after the cut one would be taken for its last byte

@@ -17,15 +17,15 @@ use Rattle.walk.proofs.Standing.{first-stands, byte-stands, stands-behind, skip
 use Rattle.walk.proofs.Parts.{Ahead, flag-one, name-bit}
 use Rattle.walk.proofs.Descents.{head-stands}
 use Rattle.table.specs.Table.{three, SpellMetadata, rawPairs, pairPlaces, SpellField}
-use Rattle.emit.specs.Emission.{withNullable, PutsHead, PutsRawHead, PutsName, HasPlaces, PutsMetadata}
+use Rattle.emit.specs.Emission.{flaggedBy, PutsHead, PutsRawHead, PutsName, HasPlaces, PutsMetadata}
 use Rattle.emit.proofs.Fronts.{byte-is, place-is, behind-stands}
 use Rattle.emit.proofs.Putting.{PutsPart}
 use Rattle.emit.proofs.Copies.{places-stand}
 
 -- The bits of a map
 
-low-bit : (n : ℕ) → n % 2 ≡ flag 1 (eqb (n % 2) 1)
-low-bit n = go (n % 2) (omega arith)
+low-bits : (n : ℕ) → n % 4 ≡ flag 1 (eqb (n % 2) 1) + flag 2 (eqb (n / 2 % 2) 1)
+low-bits n = omega (arith, go (n % 2) (omega arith), go (n / 2 % 2) (omega arith), flag-one 2 (eqb (n / 2 % 2) 1))
   where
     go : (m : ℕ) → m < 2 → m ≡ flag 1 (eqb m 1)
     go zero h = refl
@@ -33,13 +33,16 @@ low-bit n = go (n % 2) (omega arith)
     go (suc (suc m)) h = absurd (omega (arith, h))
 
 module _ (a b c d : Bool) where
-  -- all but the lowest
-  upper-bits : (flag 1 a + flag 2 b + flag 4 c + flag 8 d) / 2 % 8 * 2 ≡ flag 2 b + flag 4 c + flag 8 d
-  upper-bits = omega (arith, flag-one 1 a, flag-one 2 b, flag-one 4 c, flag-one 8 d)
+  quarter : (flag 1 a + flag 2 b + flag 4 c + flag 8 d) / 4 ≡ flag 1 c + 2 * flag 1 d
+  quarter = omega (arith, flag-one 1 a, flag-one 2 b, flag-one 4 c, flag-one 8 d)
 
-  -- the two in the middle
-  middle-bits : (flag 1 a + flag 2 b + flag 4 c + flag 8 d) / 2 % 4 * 2 ≡ flag 2 b + flag 4 c
-  middle-bits = omega (arith, flag-one 1 a, flag-one 2 b, flag-one 4 c, flag-one 8 d)
+  -- the two highest
+  upper-bits : (flag 1 a + flag 2 b + flag 4 c + flag 8 d) / 4 % 4 * 4 ≡ flag 4 c + flag 8 d
+  upper-bits = let q = quarter in omega (arith, q, flag-one 4 c, flag-one 8 d)
+
+  -- the name's
+  middle-bits : (flag 1 a + flag 2 b + flag 4 c + flag 8 d) / 4 % 2 * 4 ≡ flag 4 c
+  middle-bits = let q = quarter in omega (arith, q, flag-one 4 c, flag-one 8 d)
 
 -- The head that stands at a place of the train
 
@@ -57,21 +60,21 @@ module _ {s : Bytes} {first map name : ℕ} (e : map ≡ getD s first 0) (a : Ah
   name-at h st = skip-ahead (_ ∷ []) refl (a .1) .behind (first-stands (_ ∷ []) _ st)
 
   module _ (flags : ℕ) {d d₁ d₂ : Bytes} {p q r end : ℕ} (f : PutsPart s name end d₁ q d₂ r) where
-    pub raw-head-puts : Puts ((flags % 2 + map / 2 % 8 * 2) ∷ []) d p d₁ q → ((h : Head) → Skips s first (headBytes h) end) → PutsRawHead s first flags d p d₂ r
+    pub raw-head-puts : Puts ((flags % 4 + map / 4 % 4 * 4) ∷ []) d p d₁ q → ((h : Head) → Skips s first (headBytes h) end) → PutsRawHead s first flags d p d₂ r
     unfolding headBytes
     raw-head-puts one g h st =
         let rest = part textBytes (h .name) ++ part (withCount pairBytes) (h .metadata) in
         let bits = upper-bits (h .nullable) (h .dictIsOrdered) (stands (h .name)) (stands (h .metadata)) in
-        let i : flags % 2 + map / 2 % 8 * 2 ≡ flag 1 (eqb (flags % 2) 1) + flag 2 (h .dictIsOrdered) + flag 4 (stands (h .name)) + flag 8 (stands (h .metadata)) =
-        omega (arith, low-bit flags, ap (λ m. m / 2 % 8 * 2) (map-is h st) ∙ bits) in
+        let i : flags % 4 + map / 4 % 4 * 4 ≡ flag 1 (eqb (flags % 2) 1) + flag 2 (eqb (flags / 2 % 2) 1) + flag 4 (stands (h .name)) + flag 8 (stands (h .metadata)) =
+        omega (arith, low-bits flags, ap (λ m. m / 4 % 4 * 4) (map-is h st) ∙ bits) in
         puts-join (_ ∷ []) rest (puts-same (ap (λ n. n ∷ []) i) one) (f rest (name-stands h st) (omega (arith, g h .behind st, name-at h st)))
 
-    pub name-puts : {m : ℕ} (metadata : Bool) → m ≡ flag 8 metadata → Puts ((flags % 2 + map / 2 % 4 * 2 + m) ∷ []) d p d₁ q
+    pub name-puts : {m : ℕ} (metadata : Bool) → m ≡ flag 8 metadata → Puts ((flags % 4 + map / 4 % 2 * 4 + m) ∷ []) d p d₁ q
         → ((t : Bytes) → stands t ≡ eqb (map / 4 % 2) 1 → Skips s name (part textBytes t) end) → PutsName s first flags metadata d p d₂ r
     name-puts {m} metadata k one g h st =
         let bits = middle-bits (h .nullable) (h .dictIsOrdered) (stands (h .name)) (stands (h .metadata)) in
-        let i : flags % 2 + map / 2 % 4 * 2 + m ≡ flag 1 (eqb (flags % 2) 1) + flag 2 (h .dictIsOrdered) + flag 4 (stands (h .name)) + flag 8 metadata =
-        omega (arith, k, low-bit flags, ap (λ m. m / 2 % 4 * 2) (map-is h st) ∙ bits) in
+        let i : flags % 4 + map / 4 % 2 * 4 + m ≡ flag 1 (eqb (flags % 2) 1) + flag 2 (eqb (flags / 2 % 2) 1) + flag 4 (stands (h .name)) + flag 8 metadata =
+        omega (arith, k, low-bits flags, ap (λ m. m / 4 % 2 * 4) (map-is h st) ∙ bits) in
         let named = ap (λ m. eqb (m / 4 % 2) 1) (map-is h st) ∙ name-bit (h .nullable) (h .dictIsOrdered) (stands (h .name)) (stands (h .metadata)) in
         let there = first-stands (part textBytes (h .name)) _ (name-stands h st) in
         puts-join (_ ∷ []) (part textBytes (h .name)) (puts-same (ap (λ n. n ∷ []) i) one) (f (part textBytes (h .name)) there (g (h .name) (sym named) .behind there))
@@ -96,16 +99,19 @@ module _ {s w : Bytes} {place flags m first : ℕ} (e : flags ≡ getD w place 0
     nullable-is : eqb (flags % 2) 1 ≡ f .head .nullable
     nullable-is = ap (λ n. eqb (n % 2) 1) flags-are ∙ p .nullable
 
+    ordered-is : eqb (flags / 2 % 2) 1 ≡ f .head .dictIsOrdered
+    ordered-is = ap (λ n. eqb (n / 2 % 2) 1) flags-are ∙ p .dictIsOrdered
+
   module _ {d : Bytes} {pos : ℕ} {d′ : Bytes} {r : ℕ} where
-    pub head-raw : (flags / 2 ≡ 1 → ⊥) → PutsRawHead s first flags d pos d′ r → PutsHead s w place d pos d′ r
+    pub head-raw : (flags / 4 ≡ 1 → ⊥) → PutsRawHead s first flags d pos d′ r → PutsHead s w place d pos d′ r
     head-raw never g l k y f p st = go (p .metadata)
       where
-        go : SpellMetadata s (p .metadataRoom) (eqb (p .flags / 2) 1) (p .metadataBytes) (p .own .head .metadata) (f .head .metadata) → Puts (headBytes (f .head)) d pos d′ r
+        go : SpellMetadata s (p .metadataRoom) (eqb (p .flags / 4) 1) (p .metadataBytes) (p .own .head .metadata) (f .head .metadata) → Puts (headBytes (f .head)) d pos d′ r
         go (rawPairs o b j n) =
-            puts-same (same-head (withNullable (p .own .head) (eqb (flags % 2) 1)) (f .head) (nullable-is l p st) (p .dictIsOrdered) (p .name) j) (g (p .own .head) (own-stands l p st))
-        go (pairPlaces o n) = absurd (never (ap (λ n. n / 2) (flags-are l p st) ∙ eqb-true (p .flags / 2) 1 o))
+            puts-same (same-head (flaggedBy (p .own .head) flags) (f .head) (nullable-is l p st) (ordered-is l p st) (p .name) j) (g (p .own .head) (own-stands l p st))
+        go (pairPlaces o n) = absurd (never (ap (λ n. n / 4) (flags-are l p st) ∙ eqb-true (p .flags / 4) 1 o))
 
-  pub head-open : {pairs : ℕ} {b : Bool} {d d₁ d₂ : Bytes} {pos q r : ℕ} → flags / 2 ≡ 1 → Ahead w place 4 pairs → HasPlaces w pairs b → PutsName s first flags b d pos d₁ q
+  pub head-open : {pairs : ℕ} {b : Bool} {d d₁ d₂ : Bytes} {pos q r : ℕ} → flags / 4 ≡ 1 → Ahead w place 4 pairs → HasPlaces w pairs b → PutsName s first flags b d pos d₁ q
       → PutsMetadata s w pairs d₁ q d₂ r → PutsHead s w place d pos d₂ r
   unfolding headBytes
   head-open {pairs} {b} {d} {d₁} {d₂} {pos} {q} {r} set c has g h l k y f p st = go (p .metadata)
@@ -113,13 +119,13 @@ module _ {s w : Bytes} {place flags m first : ℕ} (e : flags ≡ getD w place 0
       there : Stands w pairs (p .metadataBytes)
       there = first-stands (p .metadataBytes) (p .typeSpelt) (behind-stands (p .flags) (p .first) (p .metadataBytes ++ p .typeSpelt) c (p .bytes) st)
 
-      go : SpellMetadata s (p .metadataRoom) (eqb (p .flags / 2) 1) (p .metadataBytes) (p .own .head .metadata) (f .head .metadata) → Puts (headBytes (f .head)) d pos d₂ r
-      go (rawPairs o x j n) = absurd (false≢true (sym o ∙ ap (λ n. eqb (n / 2) 1) (sym (flags-are l p st)) ∙ eq-eqb (flags / 2) 1 set))
+      go : SpellMetadata s (p .metadataRoom) (eqb (p .flags / 4) 1) (p .metadataBytes) (p .own .head .metadata) (f .head .metadata) → Puts (headBytes (f .head)) d pos d₂ r
+      go (rawPairs o x j n) = absurd (false≢true (sym o ∙ ap (λ n. eqb (n / 4) 1) (sym (flags-are l p st)) ∙ eq-eqb (flags / 4) 1 set))
       go (pairPlaces o n) =
           puts-same
-          (same-head (record { typeId = 0; nullable = eqb (flags % 2) 1; dictIsOrdered = p .own .head .dictIsOrdered; name = p .own .head .name; metadata = f .head .metadata }) (f .head) (nullable-is l p st) (p .dictIsOrdered) (p .name) refl)
+          (same-head (record { typeId = 0; nullable = eqb (flags % 2) 1; dictIsOrdered = eqb (flags / 2 % 2) 1; name = p .own .head .name; metadata = f .head .metadata }) (f .head) (nullable-is l p st) (ordered-is l p st) (p .name) refl)
           (puts-join (_ ∷ part textBytes (p .own .head .name)) (part (withCount pairBytes) (f .head .metadata))
           (puts-same
-          (ap (λ z. (flag 1 (eqb (flags % 2) 1) + flag 2 (p .own .head .dictIsOrdered) + flag 4 (stands (p .own .head .name)) + flag 8 z) ∷ part textBytes (p .own .head .name)) (places-stand n there has))
+          (ap (λ z. (flag 1 (eqb (flags % 2) 1) + flag 2 (eqb (flags / 2 % 2) 1) + flag 4 (stands (p .own .head .name)) + flag 8 z) ∷ part textBytes (p .own .head .name)) (places-stand n there has))
           (g (p .own .head) (own-stands l p st)))
           (h (p .metadataRoom) (p .metadataBytes) (f .head .metadata) n there))

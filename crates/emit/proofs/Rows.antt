@@ -58,7 +58,7 @@ module _ (l : ℕ) (s : Bytes) where
     left-begin fs G p st g = record { left = fs; bytes = p .rowBytes; room = p .rowRoom; rows = p .row; stands = subst (Stands w place) (p .bytes) st; goal = g }
 
     -- an entry does not begin as the end of a row does
-    not-end : {i : ℕ} {b : Bytes} {x : Field l} (c : Bytes) → Entry i b x → Stands w place (b ++ c) → getD w place 0 < 4
+    not-end : {i : ℕ} {b : Bytes} {x : Field l} (c : Bytes) → Entry i b x → Stands w place (b ++ c) → getD w place 0 < 8
     not-end {x = x} c e st = let j = byte-stands (subst (λ b. Stands w place (b ++ c)) (e .bytes) st) in omega (arith, j, e .smallFlags)
 
     module _ (G : List (Field l) → Type 0) (k : Left w G place) where

@@ -1,6 +1,6 @@
 -- What the functions of `emit` give of the parts of the table, where they stand there. `s` is the train, `w` the table. What is put is the
 -- sheet's bytes of what the part spells; the buffer is d before and d′ behind, and r is the position behind what was put from p on.
-use Prim.Native.Nat.{ℕ, _+_, _%_, _≤_, _<_}
+use Prim.Native.Nat.{ℕ, _+_, _/_, _%_, _≤_, _<_}
 use mathlib.Core.Path.{_≡_}
 use mathlib.Core.List.{List, _∷_}
 use mathlib.Core.Bool.{Bool}
@@ -48,20 +48,20 @@ PutsUnion s w mode place levels d p d′ r =
 
 -- Heads, whatever the levels of the entry
 
--- a head that is nullable or not
-abbrev pub withNullable : Head → Bool → Head
-withNullable h b = record { typeId = h .typeId; nullable = b; dictIsOrdered = h .dictIsOrdered; name = h .name; metadata = h .metadata }
+-- a head that is nullable and ordered as an entry's flags say
+abbrev pub flaggedBy : Head → ℕ → Head
+flaggedBy h flags = record { typeId = h .typeId; nullable = eqb (flags % 2) 1; dictIsOrdered = eqb (flags / 2 % 2) 1; name = h .name; metadata = h .metadata }
 
--- of the head that stands at `first` of the train: all but whether it is nullable, which the lowest of the flags says; and the map and the
+-- of the head that stands at `first` of the train: all but whether it is nullable and ordered, which the flags say; and the map and the
 -- name alone, the map saying that there is metadata or not
 
 abbrev pub PutsRawHead : (s : Bytes) (first flags : ℕ) (d : Bytes) (p : ℕ) (d′ : Bytes) (r : ℕ) → Type 0
-PutsRawHead s first flags d p d′ r = (h : Head) → Stands s first (headBytes h) → Puts (headBytes (withNullable h (eqb (flags % 2) 1))) d p d′ r
+PutsRawHead s first flags d p d′ r = (h : Head) → Stands s first (headBytes h) → Puts (headBytes (flaggedBy h flags)) d p d′ r
 
 abbrev pub PutsName : (s : Bytes) (first flags : ℕ) (metadata : Bool) (d : Bytes) (p : ℕ) (d′ : Bytes) (r : ℕ) → Type 0
 PutsName s first flags metadata d p d′ r =
     (h : Head) → Stands s first (headBytes h)
-    → Puts ((flag 1 (eqb (flags % 2) 1) + flag 2 (h .dictIsOrdered) + flag 4 (stands (h .name)) + flag 8 metadata) ∷ part textBytes (h .name)) d p d′ r
+    → Puts ((flag 1 (eqb (flags % 2) 1) + flag 2 (eqb (flags / 2 % 2) 1) + flag 4 (stands (h .name)) + flag 8 metadata) ∷ part textBytes (h .name)) d p d′ r
 
 abbrev pub PutsHead : (s w : Bytes) (place : ℕ) (d : Bytes) (p : ℕ) (d′ : Bytes) (r : ℕ) → Type 0
 PutsHead s w place d p d′ r = (l k : ℕ) (y : Bytes) (f : Field l) → SpellField l s k y f → Stands w place y → Puts (headBytes (f .head)) d p d′ r

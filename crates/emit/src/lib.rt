@@ -107,11 +107,11 @@ fn put_metadata(s: &[u8], w: &[u8], at: usize, dst: &mut [u8], pos: usize) -> us
 }
 
 // The head of an entry that has no metadata of its own: that of the first occurrence, which stands at a place of the train, but for the
-// lowest bit of its map.
+// two lowest bits of its map.
 fn put_raw_head(s: &[u8], first: usize, flags: usize, dst: &mut [u8], pos: usize) -> usize
     ensures { λ r. ⌜ PutsRawHead (now (s .entry)) first flags (now (dst .entry)) pos (now (dst .exit)) r ⌝ }
 {
-    let map = flags % 2 + walk::byte(s, first) / 2 % 8 * 2;
+    let map = flags % 4 + walk::byte(s, first) / 4 % 4 * 4;
     let next = buffer::put_one(dst, pos, map as u8);
     walk::put_part(
         dst,
@@ -136,7 +136,7 @@ fn put_name(
     let map = walk::byte(s, first);
     let name = walk::ahead(s, first, 1);
     let end = walk::skip_text_if(s, name, map / 4 % 2 == 1);
-    let own = flags % 2 + map / 2 % 4 * 2 + flag(8, metadata);
+    let own = flags % 4 + map / 4 % 2 * 4 + flag(8, metadata);
     let next = buffer::put_one(dst, pos, own as u8);
     walk::put_part(dst, next, s, name, end)
 }
@@ -147,7 +147,7 @@ fn put_head(s: &[u8], w: &[u8], at: usize, dst: &mut [u8], pos: usize) -> usize
 {
     let flags = walk::byte(w, at);
     let first = table::three(w, walk::ahead(w, at, 1));
-    if flags / 2 == 1 {
+    if flags / 4 == 1 {
         let pairs = walk::ahead(w, at, 4);
         let next = put_name(s, first, flags, has_places(w, pairs), dst, pos);
         return put_metadata(s, w, pairs, dst, next);

@@ -5,8 +5,11 @@ use buffer::Outcome;
 ghost use mathlib.Core.Path.{_≡_};
 ghost use mathlib.Core.List.{[]};
 ghost use mathlib.Core.Bool.{true, false};
-ghost use Rattle.model.specs.Call.{tryNewCall, tryFromFieldsCall, isNestedCall, equalCall, equalsDatatypeCall, containsCall, mergeCall, indexOfCall, flattenedFieldsCall, projectCall, normalizeCall, filterCall};
+ghost use Rattle.model.specs.Call.{tryNewCall, tryFromFieldsCall, isNestedCall, equalCall, equalsDatatypeCall, containsCall, mergeCall, modeOf, indexOfCall, flattenedFieldsCall, projectCall, normalizeCall, filterCall};
 ghost use Rattle.exports.specs.Told.{told};
+
+// The number of the Rust's mode.
+const AS_THE_RUST: u8 = 0;
 
 // Writes place and length, and gives the number.
 fn tell(outcome: Outcome, place: &mut usize, length: &mut usize) -> u8
@@ -105,7 +108,8 @@ pub extern "C" fn sheets_contains(
     tell(outcome, place, length)
 }
 
-// Modules 4 and 5: the merge of a train.
+// Modules 4 and 5: the merge of a train, in the mode that a number asks for (document 02, Item 6): 0 is the Rust's, any other is parked log
+// first.
 #[no_mangle]
 pub extern "C" fn sheets_merge(
     train: &[u8],
@@ -113,10 +117,11 @@ pub extern "C" fn sheets_merge(
     answer: &mut [u8],
     place: &mut usize,
     length: &mut usize,
+    mode: u8,
 ) -> u8
-    ensures { λ r. ⌜ told r (now (place .exit)) (now (length .exit)) (now (answer .exit)) (now (work .exit)) ≡ mergeCall (now (train .entry)) (now (work .entry)) (now (answer .entry)) ⌝ }
+    ensures { λ r. ⌜ told r (now (place .exit)) (now (length .exit)) (now (answer .exit)) (now (work .exit)) ≡ mergeCall (modeOf mode) (now (train .entry)) (now (work .entry)) (now (answer .entry)) ⌝ }
 {
-    let outcome = try_merge::merge(train, work, answer);
+    let outcome = try_merge::merge(train, work, answer, mode != AS_THE_RUST);
     tell(outcome, place, length)
 }
 

@@ -1,5 +1,6 @@
 -- The laws that the proofs of `field` lean on.
 pub mod Flags
+pub mod Orders
 pub mod Equal
 pub mod Fields
 pub mod Types

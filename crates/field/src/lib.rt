@@ -8,7 +8,9 @@ ghost use mathlib.Core.Bool.{_||_};
 ghost use lib.ListN.{length};
 ghost use lib.Dec.{eqb};
 ghost use Rattle.model.specs.Tree.{List′, LargeList};
-ghost use Rattle.field.specs.Claims.{OpensStruct, MergesField, MergesRest, MergesType, MergesSameCode, MergesEqual, MergesStruct, MergesList, SetsFlags, Pours, Puts};
+ghost use Rattle.field.specs.Claims.{HasNull, OrdersAgree, OpensStruct, MergesField, MergesRest, MergesType, MergesSameCode, MergesEqual, MergesStruct, MergesList, SetsFlags, Pours, Puts};
+
+const NULL: usize = 0;
 
 const STRUCT: usize = 32;
 
@@ -29,7 +31,7 @@ struct Placed {
 }
 
 // Sets the flags of an entry, whose type stands at `b`, for an incoming field and its type: "The first Null .. becomes nullable, even against
-// Null; a later Null makes the column nullable. .. At the end the first is nullable if either is."
+// Null; a later Null makes the column nullable. .. At the end the first is nullable if either is." A Null takes the order flag with the type.
 fn set_flags(s: &[u8], w: &mut [u8], used: usize, at: usize, b: usize, q: usize, t: usize)
     ensures { λ _. ⌜ (length (now (w .exit)) ≡ length (now (w .entry))) × SetsFlags (now (s .entry)) (now (w .entry)) used at b q t (now (w .exit)) ⌝ }
 {
@@ -63,6 +65,30 @@ fn same_or_clash(s: &[u8], w: &mut [u8], used: usize, at: usize, t: usize, level
     Merged::Clash(TYPE_CLASH)
 }
 
+// Whether the type of an entry or that of a field of the train is Null.
+fn has_null(s: &[u8], w: &[u8], at: usize, q: usize) -> bool
+    ensures { λ r. ⌜ HasNull (now (s .entry)) (now (w .entry)) at q r ⌝ }
+{
+    let b = table::skip_head(w, at);
+    if table::code_at(s, w, b) == NULL {
+        return true;
+    }
+    walk::byte(s, walk::skip_head(s, q)) == NULL
+}
+
+// Whether the order flags let a field of the train be merged into an entry: they are equal; or, parked log first, either type is Null.
+fn orders_agree(s: &[u8], w: &[u8], at: usize, q: usize, parked: bool) -> bool
+    ensures { λ r. ⌜ OrdersAgree parked (now (s .entry)) (now (w .entry)) at q r ⌝ }
+{
+    if walk::byte(w, at) / 2 % 2 == walk::byte(s, q) / 2 % 2 {
+        return true;
+    }
+    if parked {
+        return has_null(s, w, at, q);
+    }
+    false
+}
+
 // A field into the entry at a place: `Field::try_merge`. "Checks in order: ordered flags, metadata, type."
 pub fn merge_field(
     s: &[u8],
@@ -71,47 +97,63 @@ pub fn merge_field(
     at: usize,
     q: usize,
     levels: usize,
+    parked: bool,
 ) -> Merged
-    ensures { λ r. ⌜ (length (now (w .exit)) ≡ length (now (w .entry))) × MergesField levels (now (s .entry)) (now (w .entry)) used at q (now (w .exit)) r ⌝ }
+    ensures { λ r. ⌜ (length (now (w .exit)) ≡ length (now (w .entry))) × MergesField parked levels (now (s .entry)) (now (w .entry)) used at q (now (w .exit)) r ⌝ }
 {
-    let first = table::three(&w[..], walk::ahead(&w[..], at, 1));
-    if walk::byte(s, first) / 2 % 2 != walk::byte(s, q) / 2 % 2 {
+    if !orders_agree(s, &w[..], at, q, parked) {
         return Merged::Clash(ORDERED_CLASH);
     }
     let got = metadata::merge_metadata(s, w, used, at, q);
     let Merged::Used(kept) = got else {
         return got;
     };
-    merge_rest(s, w, kept, at, q, levels)
+    merge_rest(s, w, kept, at, q, levels, parked)
 }
 
 // What is left when order flags and metadata are settled: nullability and the type.
-fn merge_rest(s: &[u8], w: &mut [u8], used: usize, at: usize, q: usize, levels: usize) -> Merged
-    ensures { λ r. ⌜ (length (now (w .exit)) ≡ length (now (w .entry))) × MergesRest levels (now (s .entry)) (now (w .entry)) used at q (now (w .exit)) r ⌝ }
+fn merge_rest(
+    s: &[u8],
+    w: &mut [u8],
+    used: usize,
+    at: usize,
+    q: usize,
+    levels: usize,
+    parked: bool,
+) -> Merged
+    ensures { λ r. ⌜ (length (now (w .exit)) ≡ length (now (w .entry))) × MergesRest parked levels (now (s .entry)) (now (w .entry)) used at q (now (w .exit)) r ⌝ }
 {
     let b = table::skip_head(&w[..], at);
     let t = walk::skip_head(s, q);
     set_flags(s, w, used, at, b, q, t);
-    merge_type(s, w, used, b, t, levels)
+    merge_type(s, w, used, b, t, levels, parked)
 }
 
 // A type into the one whose entry stands at a place.
-fn merge_type(s: &[u8], w: &mut [u8], used: usize, at: usize, t: usize, levels: usize) -> Merged
-    ensures { λ r. ⌜ (length (now (w .exit)) ≡ length (now (w .entry))) × MergesType levels (now (s .entry)) (now (w .entry)) used at t (now (w .exit)) r ⌝ }
+fn merge_type(
+    s: &[u8],
+    w: &mut [u8],
+    used: usize,
+    at: usize,
+    t: usize,
+    levels: usize,
+    parked: bool,
+) -> Merged
+    ensures { λ r. ⌜ (length (now (w .exit)) ≡ length (now (w .entry))) × MergesType parked levels (now (s .entry)) (now (w .entry)) used at t (now (w .exit)) r ⌝ }
 {
     let mine = table::code_at(s, &w[..], at);
     let theirs = walk::byte(s, t);
-    if mine == 0 {
+    if mine == NULL {
         table::take_type(w, used, at, t);
         return Merged::Used(used);
     }
-    if theirs == 0 {
+    if theirs == NULL {
         return Merged::Used(used);
     }
     if mine != theirs {
         return Merged::Clash(TYPE_CLASH);
     }
-    merge_same_code(s, w, used, at, t, mine, levels)
+    merge_same_code(s, w, used, at, t, mine, levels, parked)
 }
 
 // Two types of one code, neither Null.
@@ -123,40 +165,58 @@ fn merge_same_code(
     t: usize,
     code: usize,
     levels: usize,
+    parked: bool,
 ) -> Merged
-    ensures { λ r. ⌜ (length (now (w .exit)) ≡ length (now (w .entry))) × MergesSameCode code levels (now (s .entry)) (now (w .entry)) used at t (now (w .exit)) r ⌝ }
+    ensures { λ r. ⌜ (length (now (w .exit)) ≡ length (now (w .entry))) × MergesSameCode parked code levels (now (s .entry)) (now (w .entry)) used at t (now (w .exit)) r ⌝ }
 {
     if levels <= 0 {
         return Merged::Used(used);
     }
     if code == STRUCT {
-        return merge_struct(s, w, used, at, t, levels - 1);
+        return merge_struct(s, w, used, at, t, levels - 1, parked);
     }
     if code == UNION {
         return members::merge_union(s, w, used, at, t, levels - 1);
     }
     if is_list(code) {
-        return merge_list(s, w, used, at, t, levels - 1);
+        return merge_list(s, w, used, at, t, levels - 1, parked);
     }
     same_or_clash(s, w, used, at, t, levels)
 }
 
 // Two structs: "Struct pours its own children, then the other's, through the merge by name, so equal names inside it fold."
-fn merge_struct(s: &[u8], w: &mut [u8], used: usize, at: usize, t: usize, levels: usize) -> Merged
-    ensures { λ r. ⌜ (length (now (w .exit)) ≡ length (now (w .entry))) × MergesStruct levels (now (s .entry)) (now (w .entry)) used at t (now (w .exit)) r ⌝ }
+fn merge_struct(
+    s: &[u8],
+    w: &mut [u8],
+    used: usize,
+    at: usize,
+    t: usize,
+    levels: usize,
+    parked: bool,
+) -> Merged
+    ensures { λ r. ⌜ (length (now (w .exit)) ≡ length (now (w .entry))) × MergesStruct parked levels (now (s .entry)) (now (w .entry)) used at t (now (w .exit)) r ⌝ }
 {
     let inner = walk::ahead(&w[..], at, 4);
-    let got = pour_own(s, w, used, at, levels);
+    let got = pour_own(s, w, used, at, levels, parked);
     let Merged::Used(own) = got else {
         return got;
     };
     let count = walk::two(s, walk::ahead(s, t, 1));
-    pour(s, w, own, inner, walk::ahead(s, t, 3), count, levels)
+    pour(
+        s,
+        w,
+        own,
+        inner,
+        walk::ahead(s, t, 3),
+        count,
+        levels,
+        parked,
+    )
 }
 
 // A raw struct is opened and its own children poured; an open one has them already.
-fn pour_own(s: &[u8], w: &mut [u8], used: usize, at: usize, levels: usize) -> Merged
-    ensures { λ r. ⌜ (length (now (w .exit)) ≡ length (now (w .entry))) × OpensStruct levels (now (s .entry)) (now (w .entry)) used at (now (w .exit)) r ⌝ }
+fn pour_own(s: &[u8], w: &mut [u8], used: usize, at: usize, levels: usize, parked: bool) -> Merged
+    ensures { λ r. ⌜ (length (now (w .exit)) ≡ length (now (w .entry))) × OpensStruct parked levels (now (s .entry)) (now (w .entry)) used at (now (w .exit)) r ⌝ }
 {
     if walk::byte(&w[..], at) == 1 {
         return Merged::Used(used);
@@ -165,16 +225,33 @@ fn pour_own(s: &[u8], w: &mut [u8], used: usize, at: usize, levels: usize) -> Me
     let inner = walk::ahead(&w[..], at, 4);
     let count = walk::two(s, walk::ahead(s, own, 1));
     let opened = table::open_struct(w, used, at);
-    pour(s, w, opened, inner, walk::ahead(s, own, 3), count, levels)
+    pour(
+        s,
+        w,
+        opened,
+        inner,
+        walk::ahead(s, own, 3),
+        count,
+        levels,
+        parked,
+    )
 }
 
 // Two lists, or two large lists: the child with the other's; it keeps its own name.
-fn merge_list(s: &[u8], w: &mut [u8], used: usize, at: usize, t: usize, levels: usize) -> Merged
-    ensures { λ r. ⌜ (length (now (w .exit)) ≡ length (now (w .entry))) × MergesList levels (now (s .entry)) (now (w .entry)) used at t (now (w .exit)) r ⌝ }
+fn merge_list(
+    s: &[u8],
+    w: &mut [u8],
+    used: usize,
+    at: usize,
+    t: usize,
+    levels: usize,
+    parked: bool,
+) -> Merged
+    ensures { λ r. ⌜ (length (now (w .exit)) ≡ length (now (w .entry))) × MergesList parked levels (now (s .entry)) (now (w .entry)) used at t (now (w .exit)) r ⌝ }
 {
     let inner = walk::ahead(&w[..], at, 4);
     let opened = table::open_list(s, w, used, at);
-    merge_field(s, w, opened, inner, walk::ahead(s, t, 1), levels)
+    merge_field(s, w, opened, inner, walk::ahead(s, t, 1), levels, parked)
 }
 
 // So many fields of the train into a row, by name: `SchemaBuilder::try_merge` for each. A loop: a thousand take no more stack than one.
@@ -186,15 +263,16 @@ pub fn pour(
     q: usize,
     count: usize,
     levels: usize,
+    parked: bool,
 ) -> Merged
-    ensures { λ r. ⌜ (length (now (w .exit)) ≡ length (now (w .entry))) × Pours levels (now (s .entry)) (now (w .entry)) used row q count (now (w .exit)) r ⌝ }
+    ensures { λ r. ⌜ (length (now (w .exit)) ≡ length (now (w .entry))) × Pours parked levels (now (s .entry)) (now (w .entry)) used row q count (now (w .exit)) r ⌝ }
 {
     let mut held = used;
     let mut hint = row;
     let mut place = q;
     let mut left = count;
     while 0 < left {
-        let step = put(s, w, held, row, hint, place, levels);
+        let step = put(s, w, held, row, hint, place, levels, parked);
         hint = step.next;
         let merged = step.merged;
         let Merged::Used(end) = merged else {
@@ -216,13 +294,14 @@ fn put(
     hint: usize,
     q: usize,
     levels: usize,
+    parked: bool,
 ) -> Placed
-    ensures { λ r. ⌜ (length (now (w .exit)) ≡ length (now (w .entry))) × Puts levels (now (s .entry)) (now (w .entry)) used row hint q (now (w .exit)) (r .merged) (r .next) ⌝ }
+    ensures { λ r. ⌜ (length (now (w .exit)) ≡ length (now (w .entry))) × Puts parked levels (now (s .entry)) (now (w .entry)) used row hint q (now (w .exit)) (r .merged) (r .next) ⌝ }
 {
     let found = table::find(s, &w[..], row, hint, q, levels);
     match found {
         Found::At(place) => {
-            let merged = merge_field(s, w, used, place, q, levels);
+            let merged = merge_field(s, w, used, place, q, levels, parked);
             let next = table::next_entry(&w[..], place, levels);
             Placed { merged, next }
         }

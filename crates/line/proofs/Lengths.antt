@@ -77,35 +77,35 @@ settled-line (bytes b) work answer h room =
 settled-line (refused n p) work answer h room = omega (arith, refused-line n p work answer)
 
 -- the merge of no sheet is a sheet of one byte; of one or more it is no longer than they are
-merged-length : (train b : Bytes) (xs : List Schema) (z : Schema) → length train ≤ maxProgramBytes → MergeOf train b xs z → length b ≤ maxProgramBytes
+merged-length : (parked : Bool) (train b : Bytes) (xs : List Schema) (z : Schema) → length train ≤ maxProgramBytes → MergeOf parked train b xs z → length b ≤ maxProgramBytes
 unfolding tryMerge mergeFrom sheetBytes
-merged-length train b [] z h m =
+merged-length parked train b [] z h m =
     let e : z ≡ empty = (let i = m .merges in cc) in
     omega (arith, ap length (m .written ∙ ap sheetBytes e))
-merged-length train b (x ∷ xs) z h m = omega (arith, m .size, h)
+merged-length parked train b (x ∷ xs) z h m = omega (arith, m .size, h)
 
 zeros-length : (n : ℕ) → length (zeros n) ≡ n
 unfolding zeros
 zeros-length n = length-replicate n 0
 
 -- the line of a merge whose buffers have so many bytes
-called-line : (input : Bytes) → AreBytes input → length input ≤ maxProgramBytes → (work answer : Bytes)
-    → workBytesPerSheetByte * maxProgramBytes ≤ length work → maxSheetBytes ≤ length answer → length (lineOf (mergeCall input work answer)) ≤ maxLineBytes
+called-line : (parked : Bool) (input : Bytes) → AreBytes input → length input ≤ maxProgramBytes → (work answer : Bytes)
+    → workBytesPerSheetByte * maxProgramBytes ≤ length work → maxSheetBytes ≤ length answer → length (lineOf (mergeCall parked input work answer)) ≤ maxLineBytes
 unfolding call
-called-line input byte h work answer f g =
+called-line parked input byte h work answer f g =
     let e = choose-false _ _ _ (le-ltb (length work) (workBytesPerSheetByte * length input) (omega (arith, h, f))) in
     subst (λ x. length (lineOf x) ≤ maxLineBytes) (sym e)
-    (settled-line (mergeAnswer input) (zeros (length work)) answer
-    (λ b i. let (xs, z, m) = merge-answered input b byte i in merged-length input b xs z h m) g)
+    (settled-line (mergeAnswer parked input) (zeros (length work)) answer
+    (λ b i. let (xs, z, m) = merge-answered parked input b byte i in merged-length parked input b xs z h m) g)
 
 -- a buffer of so many bytes holds the line for every input
-pub program-line-length : (input : Bytes) → AreBytes input → length (programLine input) ≤ maxLineBytes
+pub program-line-length : (parked : Bool) (input : Bytes) → AreBytes input → length (programLine parked input) ≤ maxLineBytes
 unfolding programLine choose
-program-line-length input byte = go (ltb maxProgramBytes (length input)) refl
+program-line-length parked input byte = go (ltb maxProgramBytes (length input)) refl
   where
     go : (t : Bool) → ltb maxProgramBytes (length input) ≡ t
-        → length (choose t (λ u. lineOf (refusal inputTooLong 0 [] [])) (λ u. lineOf (mergeCall input (zeros (workBytesPerSheetByte * maxProgramBytes)) (zeros maxSheetBytes)))) ≤ maxLineBytes
+        → length (choose t (λ u. lineOf (refusal inputTooLong 0 [] [])) (λ u. lineOf (mergeCall parked input (zeros (workBytesPerSheetByte * maxProgramBytes)) (zeros maxSheetBytes)))) ≤ maxLineBytes
     go true e = omega (arith, refused-line inputTooLong 0 [] [])
     go false e =
-        called-line input byte (ltb-false maxProgramBytes (length input) e) _ _
+        called-line parked input byte (ltb-false maxProgramBytes (length input) e) _ _
         (omega (arith, zeros-length (workBytesPerSheetByte * maxProgramBytes))) (omega (arith, zeros-length maxSheetBytes))

@@ -28,37 +28,37 @@ module _ {w w′ : Bytes} {p q : ℕ} where
       → ((work : Bytes) → Puts (lineOf (leaves o answer work)) w p w′ q) → Puts (lineOf x) w p w′ q
   line-as o answer work e f = puts-same (ap lineOf e) (f work)
 
-  pub too-long : (input : Bytes) (o : Outcome) → maxProgramBytes < length input → o ≡ refusedWith inputTooLong 0
-      → ((work : Bytes) → Puts (lineOf (leaves o [] work)) w p w′ q) → Puts (programLine input) w p w′ q
+  pub too-long : (parked : Bool) (input : Bytes) (o : Outcome) → maxProgramBytes < length input → o ≡ refusedWith inputTooLong 0
+      → ((work : Bytes) → Puts (lineOf (leaves o [] work)) w p w′ q) → Puts (programLine parked input) w p w′ q
   unfolding programLine
-  too-long input o h e f =
+  too-long parked input o h e f =
       puts-same (sym (choose-true _ _ _ (lt-ltb maxProgramBytes (length input) h))) (line-as o [] [] (leaves-refusal inputTooLong 0 [] [] e) f)
 
-  pub not-too-long : (input : Bytes) → length input ≤ maxProgramBytes
-      → Puts (lineOf (mergeCall input (zeros (workBytesPerSheetByte * maxProgramBytes)) (zeros maxSheetBytes))) w p w′ q → Puts (programLine input) w p w′ q
+  pub not-too-long : (parked : Bool) (input : Bytes) → length input ≤ maxProgramBytes
+      → Puts (lineOf (mergeCall parked input (zeros (workBytesPerSheetByte * maxProgramBytes)) (zeros maxSheetBytes))) w p w′ q → Puts (programLine parked input) w p w′ q
   unfolding programLine
-  not-too-long input h f = puts-same (sym (choose-false _ _ _ (le-ltb maxProgramBytes (length input) h))) f
+  not-too-long parked input h f = puts-same (sym (choose-false _ _ _ (le-ltb maxProgramBytes (length input) h))) f
 
 -- 16,001 bytes tell an input that is too long from the longest one
-program-line-read : (all : Bytes) → programLine (take (maxProgramBytes + 1) all) ≡ programLine all
+program-line-read : (parked : Bool) (all : Bytes) → programLine parked (take (maxProgramBytes + 1) all) ≡ programLine parked all
 unfolding programLine
-program-line-read all = go (ltb maxProgramBytes (length all)) refl
+program-line-read parked all = go (ltb maxProgramBytes (length all)) refl
   where
-    go : (t : Bool) → ltb maxProgramBytes (length all) ≡ t → programLine (take (maxProgramBytes + 1) all) ≡ programLine all
+    go : (t : Bool) → ltb maxProgramBytes (length all) ≡ t → programLine parked (take (maxProgramBytes + 1) all) ≡ programLine parked all
     go true e =
         let h = ltb-true maxProgramBytes (length all) e in
         let n = length-take-le (maxProgramBytes + 1) all (omega (arith, h)) in
         choose-true _ _ _ (lt-ltb maxProgramBytes (length (take (maxProgramBytes + 1) all)) (omega (arith, n))) ∙ sym (choose-true _ _ _ e)
-    go false e = ap programLine (take-all (maxProgramBytes + 1) all (omega (arith, ltb-false maxProgramBytes (length all) e)))
+    go false e = ap (programLine parked) (take-all (maxProgramBytes + 1) all (omega (arith, ltb-false maxProgramBytes (length all) e)))
 
 -- no line passes the buffer, and none the longest answer
-pub prints : (input : Bytes) {w w′ : Bytes} {r : ℕ} → AreBytes input → length w ≡ maxLineBytes → Puts (programLine input) w 0 w′ r → Prints input w w′ r
-prints input {w} byte room f =
-    let h = program-line-length input byte in
+pub prints : (parked : Bool) (input : Bytes) {w w′ : Bytes} {r : ℕ} → AreBytes input → length w ≡ maxLineBytes → Puts (programLine parked input) w 0 w′ r → Prints parked input w w′ r
+prints parked input {w} byte room f =
+    let h = program-line-length parked input byte in
     let n = f .inside (omega (arith, h)) in
     record {
       counted = omega (arith, n);
       fits = omega (arith, h, n, room, f .size);
-      written = f .written (omega (arith, h)) (omega (arith, h, room)) ∙ pasted-zero w (programLine input);
-      whole = λ all e. ap programLine e ∙ program-line-read all;
+      written = f .written (omega (arith, h)) (omega (arith, h, room)) ∙ pasted-zero w (programLine parked input);
+      whole = λ all e. ap (programLine parked) e ∙ program-line-read parked all;
     }

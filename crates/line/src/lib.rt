@@ -1,4 +1,4 @@
-// The line that the program merge prints. Document 01: "number, space, place, space, the answer in lower-case hex or `-`". It is written
+// The line that the program prints, in a mode. Document 01: "number, space, place, space, the answer in lower-case hex or `-`". It is written
 // here, into a buffer, and the promise gives every byte of it: what is left to the program is to read and to write.
 // The Rust has no such program.
 use buffer::Outcome;
@@ -102,30 +102,30 @@ pub fn put_line(dst: &mut [u8], outcome: Outcome, answer: &[u8]) -> usize
 }
 
 // The line of the merge of a train, with buffers that are large enough for any train of that size.
-fn put_merged(dst: &mut [u8], train: &[u8]) -> usize
-    ensures { λ r. ⌜ Puts (lineOf (mergeCall (now (train .entry)) (zeros (workBytesPerSheetByte * maxProgramBytes)) (zeros maxSheetBytes))) (now (dst .entry)) 0 (now (dst .exit)) r ⌝ }
+fn put_merged(dst: &mut [u8], train: &[u8], parked: bool) -> usize
+    ensures { λ r. ⌜ Puts (lineOf (mergeCall parked (now (train .entry)) (zeros (workBytesPerSheetByte * maxProgramBytes)) (zeros maxSheetBytes))) (now (dst .entry)) 0 (now (dst .exit)) r ⌝ }
 {
     let mut work = [0u8; WORK_BYTES];
     let mut answer = [0u8; buffer::MAX_ANSWER_BYTES];
-    let outcome = try_merge::merge(train, &mut work, &mut answer);
+    let outcome = try_merge::merge(train, &mut work, &mut answer, parked);
     put_line(dst, outcome, &answer)
 }
 
 // All that the program prints for what it has read: 35 for more than 16,000 bytes, whatever they are, or the merge of the train.
-fn put_program_line(dst: &mut [u8], input: &[u8]) -> usize
-    ensures { λ r. ⌜ Puts (programLine (now (input .entry))) (now (dst .entry)) 0 (now (dst .exit)) r ⌝ }
+fn put_program_line(dst: &mut [u8], input: &[u8], parked: bool) -> usize
+    ensures { λ r. ⌜ Puts (programLine parked (now (input .entry))) (now (dst .entry)) 0 (now (dst .exit)) r ⌝ }
 {
     if MAX_PROGRAM_BYTES < input.len() {
         let none = [0u8; 0];
         return put_line(dst, Outcome::refused(INPUT_TOO_LONG, 0), &none);
     }
-    put_merged(dst, input)
+    put_merged(dst, input, parked)
 }
 
 // The same into a buffer that holds every such line: so the line is written whole, whatever was read. The promise also says what is left to
 // the program: that the bytes given are those of standard input, to its end or to the 16,001st; the line is then that of all of them.
-pub fn program_line(input: &[u8], line: &mut [u8; MAX_LINE_BYTES]) -> usize
-    ensures { λ r. ⌜ Prints (now (input .entry)) (now (line .entry)) (now (line .exit)) r ⌝ }
+pub fn program_line(input: &[u8], line: &mut [u8; MAX_LINE_BYTES], parked: bool) -> usize
+    ensures { λ r. ⌜ Prints parked (now (input .entry)) (now (line .entry)) (now (line .exit)) r ⌝ }
 {
-    put_program_line(line, input)
+    put_program_line(line, input, parked)
 }

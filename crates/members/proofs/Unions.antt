@@ -121,6 +121,6 @@ module _ {levels : ℕ} {s w w₁ w₂ : Bytes} {used place t end row n first : 
     )
 
 -- where both are unions, this is the merge of two types of one code
-pub union-arm : (l : ℕ) (b u : DataType (suc l)) → b .code ≡ Union → mergeSameCode (mergeType l) (isNull l) (sameType l) b u ≡ mergeUnion l b u
+pub union-arm : (parked : Bool) (l : ℕ) (b u : DataType (suc l)) → b .code ≡ Union → mergeSameCode parked (mergeType parked l) (isNull l) (sameType l) b u ≡ mergeUnion l b u
 unfolding mergeSameCode choose
-union-arm l b u e = rw e
+union-arm parked l b u e = rw e

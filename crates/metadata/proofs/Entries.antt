@@ -39,17 +39,17 @@ pub record Raw (k : ℕ) (y : Bytes) (own m : Metadata) : Type 0 where
   pub same : own ≡ m
   pub room : 4 * length (part (withCount pairBytes) own) ≤ k
 
-pub is-raw : {s : Bytes} {k : ℕ} (flags : ℕ) {y : Bytes} {own m : Metadata} → (flags / 2 ≡ 1 → ⊥) → SpellMetadata s k (eqb (flags / 2) 1) y own m → Raw k y own m
+pub is-raw : {s : Bytes} {k : ℕ} (flags : ℕ) {y : Bytes} {own m : Metadata} → (flags / 4 ≡ 1 → ⊥) → SpellMetadata s k (eqb (flags / 4) 1) y own m → Raw k y own m
 is-raw flags n (rawPairs o e i h) = record { none = e; same = i; room = h }
-is-raw flags n (pairPlaces o p) = absurd (n (eqb-true (flags / 2) 1 o))
+is-raw flags n (pairPlaces o p) = absurd (n (eqb-true (flags / 4) 1 o))
 
-pub is-opened : {s : Bytes} {k : ℕ} (flags : ℕ) {y : Bytes} {own m : Metadata} → flags / 2 ≡ 1 → SpellMetadata s k (eqb (flags / 2) 1) y own m → Places s pairBytes k y m
-is-opened flags i (rawPairs o e j h) = absurd (false≢true (sym o ∙ eq-eqb (flags / 2) 1 i))
+pub is-opened : {s : Bytes} {k : ℕ} (flags : ℕ) {y : Bytes} {own m : Metadata} → flags / 4 ≡ 1 → SpellMetadata s k (eqb (flags / 4) 1) y own m → Places s pairBytes k y m
+is-opened flags i (rawPairs o e j h) = absurd (false≢true (sym o ∙ eq-eqb (flags / 4) 1 i))
 is-opened flags i (pairPlaces o p) = p
 
 module _ (l : ℕ) {s : Bytes} {k : ℕ} {y : Bytes} {f : Field l} (e : SpellField l s k y f) where
   -- an entry with other metadata
-  abbrev pub respelt : (flags : ℕ) (v : Bytes) (j c : ℕ) {m : Metadata} → flags < 4 → flags % 2 ≡ e .flags % 2 → SpellMetadata s j (eqb (flags / 2) 1) v (e .own .head .metadata) m
+  abbrev pub respelt : (flags : ℕ) (v : Bytes) (j c : ℕ) {m : Metadata} → flags < 8 → flags % 4 ≡ e .flags % 4 → SpellMetadata s j (eqb (flags / 4) 1) v (e .own .head .metadata) m
       → 4 + j + e .typeRoom ≤ c → SpellField l s c (flags ∷ (u24 (e .first) ++ (v ++ e .typeSpelt))) (withMetadata f m)
   respelt flags v j c low bit metadata room = record {
     flags = flags;
@@ -65,9 +65,9 @@ module _ (l : ℕ) {s : Bytes} {k : ℕ} {y : Bytes} {f : Field l} (e : SpellFie
     stands = e .stands;
     wellFormed = e .wellFormed;
     name = e .name;
-    dictIsOrdered = e .dictIsOrdered;
+    dictIsOrdered = let h : flags / 2 % 2 ≡ e .flags / 2 % 2 = omega (arith, bit) in ap (λ n. eqb n 1) h ∙ e .dictIsOrdered;
     typeId = e .typeId;
-    nullable = ap (λ n. eqb n 1) bit ∙ e .nullable;
+    nullable = let h : flags % 2 ≡ e .flags % 2 = omega (arith, bit) in ap (λ n. eqb n 1) h ∙ e .nullable;
     metadata = metadata;
     dataType = e .dataType;
     room = room;
@@ -85,7 +85,7 @@ HasMetadata s w place q r =
 pub has-not : {s w : Bytes} {place q : ℕ} → HasMetadata s w place q false
 has-not l k y f h e st u i = absurd (false≢true i)
 
-pub has-same : {s w : Bytes} {place q n m t : ℕ} {r : Bool} → n ≡ getD w place 0 → (n / 2 ≡ 1 → ⊥) → Ahead w place 1 m → t ≡ three w m → SameMetadata s t q r → HasMetadata s w place q r
+pub has-same : {s w : Bytes} {place q n m t : ℕ} {r : Bool} → n ≡ getD w place 0 → (n / 4 ≡ 1 → ⊥) → Ahead w place 1 m → t ≡ three w m → SameMetadata s t q r → HasMetadata s w place q r
 has-same i never a j v l k y f h e st u true′ =
-    sym (is-raw (e .flags) (λ z. never (ap (λ n. n / 2) (flags-is l e st i) ∙ z)) (e .metadata) .same)
+    sym (is-raw (e .flags) (λ z. never (ap (λ n. n / 4) (flags-is l e st i) ∙ z)) (e .metadata) .same)
     ∙ metadata-same-eq (e .own .head .metadata) (h .metadata) (sym (v (e .own .head) h (first-head l e st a j) u) ∙ true′)

@@ -23,5 +23,5 @@ mergeFieldMetadata f m = mergeMetadata fieldMetadataClash (f .head .metadata) m 
 pub record Opened (l : ℕ) (s : Bytes) (k : ℕ) (x z w : Bytes) (used : ℕ) (f : Field l) : Type 0 where
   pub spelt : Bytes
   pub entry : SpellField l s k spelt f
-  pub opened : entry .flags / 2 ≡ 1
+  pub opened : entry .flags / 4 ≡ 1
   pub held : Held w used x spelt z

@@ -43,8 +43,8 @@ pub record MergesPairs (s w : Bytes) (used row q count number : ℕ) (w′ : Byt
 -- an entry gets the flag of one with places of its pairs, and a row of none
 pub record Marks (w : Bytes) (used row flags : ℕ) (w′ : Bytes) (r : ℕ) : Type 0 where
   pub sameLength : length w′ ≡ length w
-  pub marks : (x z b : Bytes) (first : ℕ) → Held w used x (flags ∷ (u24 first ++ b)) z → row ≡ length x → flags < 2 → used + 3 ≤ length w
-      → (r ≡ used + 3) × Held w′ r (x ++ ((flags + 2) ∷ u24 first)) (u24 noPlace) (b ++ z)
+  pub marks : (x z b : Bytes) (first : ℕ) → Held w used x (flags ∷ (u24 first ++ b)) z → row ≡ length x → flags < 4 → used + 3 ≤ length w
+      → (r ≡ used + 3) × Held w′ r (x ++ ((flags + 4) ∷ u24 first)) (u24 noPlace) (b ++ z)
 
 -- an entry gets places of its pairs
 pub record OpensMetadata (s w : Bytes) (used row : ℕ) (w′ : Bytes) (r : ℕ) : Type 0 where

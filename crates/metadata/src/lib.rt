@@ -146,7 +146,7 @@ fn same_metadata(s: &[u8], a: usize, b: usize) -> bool
 fn has_metadata(s: &[u8], w: &[u8], at: usize, q: usize) -> bool
     ensures { λ r. ⌜ ((l k : ℕ) (y : Bytes) (f : Field l) (h : Head) → SpellField l (now (s .entry)) k y f → Stands (now (w .entry)) at y → Stands (now (s .entry)) q (headBytes h) → r ≡ true → f .head .metadata ≡ h .metadata) ⌝ }
 {
-    if walk::byte(w, at) / 2 == 1 {
+    if walk::byte(w, at) / 4 == 1 {
         return false;
     }
     same_metadata(s, table::three(w, walk::ahead(w, at, 1)), q)
@@ -156,7 +156,7 @@ fn has_metadata(s: &[u8], w: &[u8], at: usize, q: usize) -> bool
 fn mark_opened(w: &mut [u8], used: usize, at: usize, flags: usize) -> usize
     ensures { λ r. ⌜ Marks (now (w .entry)) used at flags (now (w .exit)) r ⌝ }
 {
-    let marked = [(flags % 2 + 2) as u8];
+    let marked = [(flags % 4 + 4) as u8];
     table::overwrite(w, used, at, &marked);
     table::insert_place(w, used, walk::ahead(w, at, 4), table::NO_PLACE)
 }
@@ -169,7 +169,7 @@ fn open_metadata(s: &[u8], w: &mut [u8], used: usize, at: usize) -> usize
     ensures { λ r. ⌜ OpensMetadata (now (s .entry)) (now (w .entry)) used at (now (w .exit)) r ⌝ }
 {
     let flags = walk::byte(w, at);
-    if flags / 2 == 1 {
+    if flags / 4 == 1 {
         return used;
     }
     let own = of_head(s, table::three(w, walk::ahead(w, at, 1)));

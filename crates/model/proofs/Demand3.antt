@@ -15,7 +15,7 @@ use Rattle.model.specs.Sheet.{each, childrenBytes, typeBytes, sheetBytes
 use Rattle.model.specs.Read.{Step, got, bad, next, readSheet, readTrain}
 use Rattle.model.specs.Merge.{mergeSchema, empty, placed, mergeFrom, tryMerge}
 use Rattle.model.specs.Call.{Answer, bytes, sheetAnswer, mergeAnswer, call}
-use Rattle.model.specs.Growth.{names, NoNameTwice, SheetOfDemand3, endToEnd, WroteSheet, Demand3}
+use Rattle.model.specs.Growth.{names, NoNameTwice, SheetOfDemand3, endToEnd, WroteSheet, MergeOnlyGrows, Demand3}
 use Rattle.model.specs.WellFormed.{WellFormedParams, WellFormedChildren, WellFormedType, WellFormedSchema, Fits, SomeOrder}
 use Rattle.model.proofs.Lists.{every-append, every-map, every-both, each-append}
 use Rattle.model.proofs.Gives.{placed-holds}
@@ -88,35 +88,7 @@ sheets-append {ss} {ts} {xs} {ys} p q =
       tidy = every-append TidySchema xs ys (p .tidy) (q .tidy);
     }
 
--- Merging one schema after the other
-
-merge-append : (i : ℕ) (x : Schema) (ys zs : List Schema) → mergeFrom i x (ys ++ zs) ≡ next (mergeFrom i x ys) (λ z j. mergeFrom j z zs)
-unfolding mergeFrom next
-merge-append i x [] zs = refl
-merge-append i x (y ∷ ys) zs = go (placed i (mergeSchema x y)) (λ z j. merge-append j z ys zs)
-  where
-    go : (r : Step Schema) → ((z : Schema) (j : ℕ) → mergeFrom j z (ys ++ zs) ≡ next (mergeFrom j z ys) (λ z j. mergeFrom j z zs))
-        → next r (λ z j. mergeFrom j z (ys ++ zs)) ≡ next (next r (λ z j. mergeFrom j z ys)) (λ z j. mergeFrom j z zs)
-    go (got z j) h = h z j
-    go (bad n p) h = refl
-
-merge-grows : (i : ℕ) (x : Schema) (ys : List Schema) → Standing x → Every TidySchema ys → Holds (λ z e. Standing z × SchemaGrew x z) (mergeFrom i x ys)
-unfolding mergeFrom TidySchema
-merge-grows i x [] g n = value (g, schema-refl x)
-merge-grows i x (y ∷ ys) g n =
-    next-holds (placed-holds i (schema-grows x y g (n .0))) λ z j h.
-    holds-map (merge-grows j z ys (h .0) (n .1)) λ w e k.
-    (k .0, schema-trans x z w (h .1) (k .1))
-
--- The call on whole sheets: accepted exactly where their schemas merge, with room
-
--- an accepted merge of whole sheets had at most 256 of them, and their schemas merge
-record MergedTo (xs : List Schema) (b : Bytes) (z : Schema) : Type 0 where
-  count : length xs ≤ maxSheets
-  place : ℕ
-  merges : tryMerge xs ≡ got z place
-  written : b ≡ sheetBytes z
-
+-- a train of whole sheets that reads has at most 256 of them
 train-count : (xs ys : List Schema) (e : ℕ) → Every Fits xs → readTrain (each sheetBytes xs) ≡ got ys e → length xs ≤ maxSheets
 train-count xs ys e f h = go (leb (length xs) maxSheets) refl
   where
@@ -127,62 +99,95 @@ train-count xs ys e f h = go (leb (length xs) maxSheets) refl
         let w : got ys e ≡ bad 33 q = sym h ∙ r in
         let z : _≡_ {A = ℕ} 0 1 = cc in absurd (omega arith)
 
-merge-inv : (xs : List Schema) (b : Bytes) → Every Fits xs → mergeAnswer (each sheetBytes xs) ≡ bytes b → (z : Schema) × MergedTo xs b z
-unfolding mergeAnswer sheetAnswer
-merge-inv xs b f h =
-    let (ys, e, p, q) = then-inv _ _ h in
-    let (z, i, r, w) = then-inv _ _ q in
-    let n = train-count xs ys e f p in
-    let same : ys ≡ xs = got-inv (sym p ∙ train-reads xs f n) in
-    (z, record { count = n; place = i; merges = ap tryMerge (sym same) ∙ r; written = sym (bytes-inv w) })
+-- Merging one schema after the other, in either mode
 
-merge-of : (xs : List Schema) (b : Bytes) (z : Schema) → Every Fits xs → MergedTo xs b z → mergeAnswer (each sheetBytes xs) ≡ bytes b
-unfolding mergeAnswer sheetAnswer
-merge-of xs b z f m = answer-then _ (train-reads xs f (m .count)) (answer-then _ (m .merges) (ap bytes (sym (m .written))))
+module _ (parked : Bool) where
+  merge-append : (i : ℕ) (x : Schema) (ys zs : List Schema) → mergeFrom parked i x (ys ++ zs) ≡ next (mergeFrom parked i x ys) (λ z j. mergeFrom parked j z zs)
+  unfolding mergeFrom next
+  merge-append i x [] zs = refl
+  merge-append i x (y ∷ ys) zs = go (placed i (mergeSchema parked x y)) (λ z j. merge-append j z ys zs)
+    where
+      go : (r : Step Schema) → ((z : Schema) (j : ℕ) → mergeFrom parked j z (ys ++ zs) ≡ next (mergeFrom parked j z ys) (λ z j. mergeFrom parked j z zs))
+          → next r (λ z j. mergeFrom parked j z (ys ++ zs)) ≡ next (next r (λ z j. mergeFrom parked j z ys)) (λ z j. mergeFrom parked j z zs)
+      go (got z j) h = h z j
+      go (bad n p) h = refl
 
--- an accepted merge wrote a sheet that reads as the merged schema
-wrote : (xs : List Schema) (b : Bytes) (z : Schema) {given : ℕ} {outcome : Answer} {work answer : Bytes} → Every Fits xs → MergedTo xs b z → Accepted given outcome work answer b
-    → WroteSheet (call given outcome work answer) z
-unfolding tryMerge
-wrote xs b z {given} {outcome} {work} {answer} f m a =
-    let good : WellFormedSchema z = of-got (subst (Holds (λ z e. WellFormedSchema z)) (m .merges) (merge-keeps 0 empty xs empty-well-formed (every-map Fits WellFormedSchema (λ x f. f .wellFormed) xs f))) in
-    let fits : Fits z = record { wellFormed = good; size = subst (λ b. length b ≤ maxSheetBytes) (m .written) (a .size) } in
-    subst (λ e. WroteSheet e z) (sym (accepted-call a))
-    (ap readSheet (take-at b (drop (length b) answer) (length b) refl) ∙ subst (λ b. readSheet b ≡ got z (length b)) (sym (m .written)) (sheet-reads z fits))
+  merge-grows : (i : ℕ) (x : Schema) (ys : List Schema) → Standing x → Every TidySchema ys → Holds (λ z e. Standing z × SchemaGrew parked x z) (mergeFrom parked i x ys)
+  unfolding mergeFrom TidySchema
+  merge-grows i x [] g n = value (g, schema-refl parked x)
+  merge-grows i x (y ∷ ys) g n =
+      next-holds (placed-holds i (schema-grows parked x y g (n .0))) λ z j h.
+      holds-map (merge-grows j z ys (h .0) (n .1)) λ w e k.
+      (k .0, schema-trans parked x z w (h .1) (k .1))
 
--- the schema merged from a list is grown into the one merged from the list and those that follow, and its sheet is no longer
-pub merge-grows-on : (xs ys : List Schema) (new : Schema) (e : ℕ) → Every TidySchema xs → Every TidySchema ys → tryMerge (xs ++ ys) ≡ got new e
-    → (old : Schema) × (i : ℕ) × (tryMerge xs ≡ got old i) × SchemaGrew old new
-unfolding tryMerge
-merge-grows-on xs ys new e t u h =
-    let (old, i, r, s) = next-inv _ _ (sym (merge-append 0 empty xs ys) ∙ h) in
-    let start : Standing empty = record { apart = tt; tidy = tt } in
-    let stands : Standing old = of-got (subst (Holds (λ z e. Standing z × SchemaGrew empty z)) r (merge-grows 0 empty xs start t)) .0 in
-    (old, i, r, of-got (subst (Holds (λ z e. Standing z × SchemaGrew old z)) s (merge-grows i old ys stands u)) .1)
+  -- The call on whole sheets: accepted exactly where their schemas merge, with room
 
--- the first call, where the second was accepted: it needs no more work room, and its answer is no longer
-first-accepted : (list all : Bytes) (xs : List Schema) (old : Schema) (work work′ answer answer′ b : Bytes) → list ≡ each sheetBytes xs → Every Fits xs
-    → MergedTo xs (sheetBytes old) old → length list ≤ length all → length (sheetBytes old) ≤ length b → length work ≡ length work′ → length answer ≡ length answer′
-    → Accepted (length all) (mergeAnswer all) work′ answer′ b → Accepted (length list) (mergeAnswer list) work answer (sheetBytes old)
-first-accepted list all xs old work work′ answer answer′ b p f m shorter size sameWork sameAnswer a =
-    record {
-      answers = ap mergeAnswer p ∙ merge-of xs (sheetBytes old) old f m;
-      workRoom = omega (arith, a .workRoom, shorter, sameWork);
-      size = omega (arith, size, a .size);
-      answerRoom = omega (arith, size, a .answerRoom, sameAnswer);
-    }
+  -- an accepted merge of whole sheets had at most 256 of them, and their schemas merge
+  record MergedTo (xs : List Schema) (b : Bytes) (z : Schema) : Type 0 where
+    count : length xs ≤ maxSheets
+    place : ℕ
+    merges : tryMerge parked xs ≡ got z place
+    written : b ≡ sheetBytes z
+
+  merge-inv : (xs : List Schema) (b : Bytes) → Every Fits xs → mergeAnswer parked (each sheetBytes xs) ≡ bytes b → (z : Schema) × MergedTo xs b z
+  unfolding mergeAnswer sheetAnswer
+  merge-inv xs b f h =
+      let (ys, e, p, q) = then-inv _ _ h in
+      let (z, i, r, w) = then-inv _ _ q in
+      let n = train-count xs ys e f p in
+      let same : ys ≡ xs = got-inv (sym p ∙ train-reads xs f n) in
+      (z, record { count = n; place = i; merges = ap (tryMerge parked) (sym same) ∙ r; written = sym (bytes-inv w) })
+
+  merge-of : (xs : List Schema) (b : Bytes) (z : Schema) → Every Fits xs → MergedTo xs b z → mergeAnswer parked (each sheetBytes xs) ≡ bytes b
+  unfolding mergeAnswer sheetAnswer
+  merge-of xs b z f m = answer-then _ (train-reads xs f (m .count)) (answer-then _ (m .merges) (ap bytes (sym (m .written))))
+
+  -- an accepted merge wrote a sheet that reads as the merged schema
+  wrote : (xs : List Schema) (b : Bytes) (z : Schema) {given : ℕ} {outcome : Answer} {work answer : Bytes} → Every Fits xs → MergedTo xs b z → Accepted given outcome work answer b
+      → WroteSheet (call given outcome work answer) z
+  unfolding tryMerge
+  wrote xs b z {given} {outcome} {work} {answer} f m a =
+      let good : WellFormedSchema z = of-got (subst (Holds (λ z e. WellFormedSchema z)) (m .merges) (merge-keeps parked 0 empty xs empty-well-formed (every-map Fits WellFormedSchema (λ x f. f .wellFormed) xs f))) in
+      let fits : Fits z = record { wellFormed = good; size = subst (λ b. length b ≤ maxSheetBytes) (m .written) (a .size) } in
+      subst (λ e. WroteSheet e z) (sym (accepted-call a))
+      (ap readSheet (take-at b (drop (length b) answer) (length b) refl) ∙ subst (λ b. readSheet b ≡ got z (length b)) (sym (m .written)) (sheet-reads z fits))
+
+  -- the schema merged from a list is grown into the one merged from the list and those that follow, and its sheet is no longer
+  pub merge-grows-on : (xs ys : List Schema) (new : Schema) (e : ℕ) → Every TidySchema xs → Every TidySchema ys → tryMerge parked (xs ++ ys) ≡ got new e
+      → (old : Schema) × (i : ℕ) × (tryMerge parked xs ≡ got old i) × SchemaGrew parked old new
+  unfolding tryMerge
+  merge-grows-on xs ys new e t u h =
+      let (old, i, r, s) = next-inv _ _ (sym (merge-append 0 empty xs ys) ∙ h) in
+      let start : Standing empty = record { apart = tt; tidy = tt } in
+      let stands : Standing old = of-got (subst (Holds (λ z e. Standing z × SchemaGrew parked empty z)) r (merge-grows 0 empty xs start t)) .0 in
+      (old, i, r, of-got (subst (Holds (λ z e. Standing z × SchemaGrew parked old z)) s (merge-grows i old ys stands u)) .1)
+
+  -- the first call, where the second was accepted: it needs no more work room, and its answer is no longer
+  first-accepted : (list all : Bytes) (xs : List Schema) (old : Schema) (work work′ answer answer′ b : Bytes) → list ≡ each sheetBytes xs → Every Fits xs
+      → MergedTo xs (sheetBytes old) old → length list ≤ length all → length (sheetBytes old) ≤ length b → length work ≡ length work′ → length answer ≡ length answer′
+      → Accepted (length all) (mergeAnswer parked all) work′ answer′ b → Accepted (length list) (mergeAnswer parked list) work answer (sheetBytes old)
+  first-accepted list all xs old work work′ answer answer′ b p f m shorter size sameWork sameAnswer a =
+      record {
+        answers = ap (mergeAnswer parked) p ∙ merge-of xs (sheetBytes old) old f m;
+        workRoom = omega (arith, a .workRoom, shorter, sameWork);
+        size = omega (arith, size, a .size);
+        answerRoom = omega (arith, size, a .answerRoom, sameAnswer);
+      }
+
+  only-grows : MergeOnlyGrows parked SheetOfDemand3
+  only-grows list following w w′ work work′ answer answer′ sameWork sameAnswer h =
+      let (xs, p) = sheets-of list w in
+      let (ys, q) = sheets-of following w′ in
+      let pq = sheets-append p q in
+      let all = endToEnd (list ++ following) in
+      let (b, a) = call-accepted (length all) (mergeAnswer parked all) work′ answer′ (merge-numbered parked all) h in
+      let (new, m) = merge-inv (xs ++ ys) b (pq .fits) (ap (mergeAnswer parked) (sym (pq .written)) ∙ a .answers) in
+      let (old, i, r, grew) = merge-grows-on xs ys new (m .place) (p .tidy) (q .tidy) (m .merges) in
+      let m₁ : MergedTo xs (sheetBytes old) old = record { count = omega (arith, m .count, length-append xs ys); place = i; merges = r; written = refl } in
+      let a₁ = first-accepted (endToEnd list) all xs old work work′ answer answer′ b (p .written) (p .fits) m₁
+      (omega (arith, ap length (each-append (λ s. s) list following), length-append (endToEnd list) (endToEnd following)))
+      (omega (arith, ap length (m .written), grew .longer)) sameWork sameAnswer a in
+      (ap (λ e. e .number) (accepted-call a₁), old, new, wrote xs (sheetBytes old) old (p .fits) m₁ a₁, wrote (xs ++ ys) b new (pq .fits) m a, schema-grown grew)
 
 pub demand3 : Demand3
-demand3 list following w w′ work work′ answer answer′ sameWork sameAnswer h =
-    let (xs, p) = sheets-of list w in
-    let (ys, q) = sheets-of following w′ in
-    let pq = sheets-append p q in
-    let all = endToEnd (list ++ following) in
-    let (b, a) = call-accepted (length all) (mergeAnswer all) work′ answer′ (merge-numbered all) h in
-    let (new, m) = merge-inv (xs ++ ys) b (pq .fits) (ap mergeAnswer (sym (pq .written)) ∙ a .answers) in
-    let (old, i, r, grew) = merge-grows-on xs ys new (m .place) (p .tidy) (q .tidy) (m .merges) in
-    let m₁ : MergedTo xs (sheetBytes old) old = record { count = omega (arith, m .count, length-append xs ys); place = i; merges = r; written = refl } in
-    let a₁ = first-accepted (endToEnd list) all xs old work work′ answer answer′ b (p .written) (p .fits) m₁
-    (omega (arith, ap length (each-append (λ s. s) list following), length-append (endToEnd list) (endToEnd following)))
-    (omega (arith, ap length (m .written), grew .longer)) sameWork sameAnswer a in
-    (ap (λ e. e .number) (accepted-call a₁), old, new, wrote xs (sheetBytes old) old (p .fits) m₁ a₁, wrote (xs ++ ys) b new (pq .fits) m a, schema-grown grew)
+demand3 = only-grows

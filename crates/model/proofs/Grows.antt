@@ -7,15 +7,16 @@ use mathlib.Core.List.{List, [], _∷_, _++_, append-assoc, append-nil, List·Me
 use mathlib.Core.Bool.{Bool, true, false, _||_, false≢true}
 use lib.ListN.{length, length-append}
 use lib.Dec.{eqb}
-use borrow.Author.Tests.{eqb-true, eqb-false}
+use borrow.Author.Tests.{eqb-true, eqb-false, eq-eqb}
 use Rattle.model.specs.Bytes.{Bytes, Metadata, choose, u16, Every, sameBytes}
 use Rattle.model.specs.Tree.{DataTypeOver, FieldOver, DataType, Field, Schema, withChildren, Null, List′, LargeList, Struct, Children, fields, counted, countedWithIds, layout}
 use Rattle.model.specs.Sheet.{each, part, stands, withCount, textBytes, pairBytes, headBytes, fieldBytes, childrenBytes, typeBytes, columnBytes, sheetBytes}
 use Rattle.model.specs.Equal.{sameType}
-use Rattle.model.specs.Merge.{Merged, done, _>>=_, pour, mergePair, mergeMetadata, mergeByName, mergeChild, mergeField, mergeEach, isNull, mergeSameCode, mergeType, mergeSchema}
+use Rattle.model.specs.Merge.{Merged, done, _>>=_, pour, mergePair, mergeMetadata, mergeByName, mergeChild, mergedOrder, mergeField, mergeEach, isNull, mergeSameCode, mergeType, mergeSchema}
 use Rattle.model.specs.Growth.{Begins, here, onto, Pairwise, none, pair, Kept, GrownField, GrownOver, identical, wasNull, struct, list, largeList, union, childBytes, Grown, GrownSchema, Distinct, names}
 use Rattle.model.proofs.Lists.{or-left, or-right, every-map, every-unit}
 use Rattle.model.proofs.ByteStrings.{differ-same-bytes}
+use Rattle.model.proofs.Modes.{stayed-trans, first-stayed}
 use Rattle.model.proofs.Layouts.{struct-children, union-children, list-children}
 use Rattle.model.proofs.Gives.{Gives, value, refusal, bind-gives, need-gives, choose-gives, gives-map, pour-gives, pour-next, pour-append, choose-true, choose-false}
 
@@ -100,33 +101,34 @@ metadata-lasts n a b =
 
 -- To have grown is reflexive and transitive
 
-module _ {T : Type 0} (G : Bool → T → T → Type 0) where
-  pub field-refl : ((n : Bool) (t : T) → G n t t) → (f : FieldOver T) → GrownField G f f
-  field-refl r f = record { name = refl; dictIsOrdered = refl; metadata = kept-refl _; nullable = λ e. e; dataType = r _ _ }
+module _ {T : Type 0} (parked : Bool) (isNull : T → Bool) (G : Bool → T → T → Type 0) where
+  pub field-refl : ((n : Bool) (t : T) → G n t t) → (f : FieldOver T) → GrownField parked isNull G f f
+  field-refl r f = record { name = refl; dictIsOrdered = inl refl; metadata = kept-refl _; nullable = λ e. e; dataType = r _ _ }
 
-  pub field-trans : ((m n : Bool) (a b c : T) → (m ≡ true → n ≡ true) → G m a b → G n b c → G n a c)
-      → (f g h : FieldOver T) → GrownField G f g → GrownField G g h → GrownField G f h
-  field-trans t f g h p q =
+  pub field-trans : ((n : Bool) (a b : T) → G n a b → isNull b ≡ true → isNull a ≡ true)
+      → ((m n : Bool) (a b c : T) → (m ≡ true → n ≡ true) → G m a b → G n b c → G n a c)
+      → (f g h : FieldOver T) → GrownField parked isNull G f g → GrownField parked isNull G g h → GrownField parked isNull G f h
+  field-trans was t f g h p q =
       record {
         name = p .name ∙ q .name;
-        dictIsOrdered = p .dictIsOrdered ∙ q .dictIsOrdered;
+        dictIsOrdered = stayed-trans parked (isNull (f .dataType)) (isNull (g .dataType)) _ _ _ (was _ _ _ (p .dataType)) (p .dictIsOrdered) (q .dictIsOrdered);
         metadata = kept-trans _ _ _ (p .metadata) (q .metadata);
         nullable = λ e. q .nullable (p .nullable e);
         dataType = t _ _ _ _ _ (q .nullable) (p .dataType) (q .dataType);
       }
 
 -- `Grown` with sameness of trees
-abbrev pub Grows : (l : ℕ) → Bool → DataType l → DataType l → Type 0
-Grows zero now a b = ⊥
-Grows (suc l) now a b = GrownOver (λ t. t) (λ f. f) (Grows l) now a b
+abbrev pub Grows : Bool → (l : ℕ) → Bool → DataType l → DataType l → Type 0
+Grows parked zero now a b = ⊥
+Grows parked (suc l) now a b = GrownOver (λ t. t) (λ f. f) (GrownField parked (isNull l) (Grows parked l)) now a b
 
-pub grows-refl : (l : ℕ) (n : Bool) (t : DataType l) → Grows l n t t
-grows-refl zero n t = absurd t
-grows-refl (suc l) n t = identical refl
+pub grows-refl : (parked : Bool) (l : ℕ) (n : Bool) (t : DataType l) → Grows parked l n t t
+grows-refl parked zero n t = absurd t
+grows-refl parked (suc l) n t = identical refl
 
 -- what stands under a field that may now be nullable where it was not
-weaken : {T : Type 0} {G : Bool → T → T → Type 0} {m n : Bool} {a b : DataTypeOver (FieldOver T)} → (m ≡ true → n ≡ true)
-    → GrownOver (λ t. t) (λ f. f) G m a b → GrownOver (λ t. t) (λ f. f) G n a b
+weaken : {T : Type 0} {F : FieldOver T → FieldOver T → Type 0} {m n : Bool} {a b : DataTypeOver (FieldOver T)} → (m ≡ true → n ≡ true)
+    → GrownOver (λ t. t) (λ f. f) F m a b → GrownOver (λ t. t) (λ f. f) F n a b
 weaken up (identical e) = identical e
 weaken up (wasNull e k) = wasNull e (up k)
 weaken up (struct p q k) = struct p q k
@@ -138,57 +140,73 @@ weaken up (union p q r k) = union p q r k
 clashing : {A : Type 0} {c m n : ℕ} → c ≡ m → c ≡ n → (m ≡ n → ⊥) → A
 clashing p q d = absurd (d (sym p ∙ q))
 
-over-trans : {T : Type 0} (G : Bool → T → T → Type 0) → ((m n : Bool) (a b c : T) → (m ≡ true → n ≡ true) → G m a b → G n b c → G n a c)
+over-trans : {T : Type 0} (F : FieldOver T → FieldOver T → Type 0) → ((f g h : FieldOver T) → F f g → F g h → F f h)
     → (m n : Bool) (a b c : DataTypeOver (FieldOver T)) → (m ≡ true → n ≡ true)
-    → GrownOver (λ t. t) (λ f. f) G m a b → GrownOver (λ t. t) (λ f. f) G n b c → GrownOver (λ t. t) (λ f. f) G n a c
-over-trans G t m n a b c up (identical e) y = subst (λ x. GrownOver (λ t. t) (λ f. f) G n x c) (sym e) y
-over-trans G t m n a b c up (wasNull e k) y = wasNull e (up k)
-over-trans G t m n a b c up (struct p q k) (identical e) = subst (λ x. GrownOver (λ t. t) (λ f. f) G n a x) e (weaken up (struct p q k))
-over-trans G t m n a b c up (struct p q k) (wasNull e w) = clashing q e λ d. omega (arith, d)
-over-trans G t m n a b c up (struct p q k) (struct p′ q′ k′) = struct p q′ (begins-trans (field-trans G t) k k′)
-over-trans G t m n a b c up (struct p q k) (list p′ q′ k′) = clashing q p′ λ d. omega (arith, d)
-over-trans G t m n a b c up (struct p q k) (largeList p′ q′ k′) = clashing q p′ λ d. omega (arith, d)
-over-trans G t m n a b c up (struct p q k) (union p′ q′ r′ k′) = clashing q p′ λ d. omega (arith, d)
-over-trans G t m n a b c up (list p q k) (identical e) = subst (λ x. GrownOver (λ t. t) (λ f. f) G n a x) e (weaken up (list p q k))
-over-trans G t m n a b c up (list p q k) (wasNull e w) = clashing q e λ d. omega (arith, d)
-over-trans G t m n a b c up (list p q k) (struct p′ q′ k′) = clashing q p′ λ d. omega (arith, d)
-over-trans G t m n a b c up (list p q k) (list p′ q′ k′) = list p q′ (pairwise-trans (field-trans G t) k k′)
-over-trans G t m n a b c up (list p q k) (largeList p′ q′ k′) = clashing q p′ λ d. omega (arith, d)
-over-trans G t m n a b c up (list p q k) (union p′ q′ r′ k′) = clashing q p′ λ d. omega (arith, d)
-over-trans G t m n a b c up (largeList p q k) (identical e) = subst (λ x. GrownOver (λ t. t) (λ f. f) G n a x) e (weaken up (largeList p q k))
-over-trans G t m n a b c up (largeList p q k) (wasNull e w) = clashing q e λ d. omega (arith, d)
-over-trans G t m n a b c up (largeList p q k) (struct p′ q′ k′) = clashing q p′ λ d. omega (arith, d)
-over-trans G t m n a b c up (largeList p q k) (list p′ q′ k′) = clashing q p′ λ d. omega (arith, d)
-over-trans G t m n a b c up (largeList p q k) (largeList p′ q′ k′) = largeList p q′ (pairwise-trans (field-trans G t) k k′)
-over-trans G t m n a b c up (largeList p q k) (union p′ q′ r′ k′) = clashing q p′ λ d. omega (arith, d)
-over-trans G t m n a b c up (union p q r k) (identical e) = subst (λ x. GrownOver (λ t. t) (λ f. f) G n a x) e (weaken up (union p q r k))
-over-trans G t m n a b c up (union p q r k) (wasNull e w) = clashing q e λ d. omega (arith, d)
-over-trans G t m n a b c up (union p q r k) (struct p′ q′ k′) = clashing q p′ λ d. omega (arith, d)
-over-trans G t m n a b c up (union p q r k) (list p′ q′ k′) = clashing q p′ λ d. omega (arith, d)
-over-trans G t m n a b c up (union p q r k) (largeList p′ q′ k′) = clashing q p′ λ d. omega (arith, d)
-over-trans G t m n a b c up (union p q r k) (union p′ q′ r′ k′) = union p q′ (r ∙ r′) (begins-trans (λ x y z e w. e ∙ w) k k′)
+    → GrownOver (λ t. t) (λ f. f) F m a b → GrownOver (λ t. t) (λ f. f) F n b c → GrownOver (λ t. t) (λ f. f) F n a c
+over-trans F t m n a b c up (identical e) y = subst (λ x. GrownOver (λ t. t) (λ f. f) F n x c) (sym e) y
+over-trans F t m n a b c up (wasNull e k) y = wasNull e (up k)
+over-trans F t m n a b c up (struct p q k) (identical e) = subst (λ x. GrownOver (λ t. t) (λ f. f) F n a x) e (weaken up (struct p q k))
+over-trans F t m n a b c up (struct p q k) (wasNull e w) = clashing q e λ d. omega (arith, d)
+over-trans F t m n a b c up (struct p q k) (struct p′ q′ k′) = struct p q′ (begins-trans t k k′)
+over-trans F t m n a b c up (struct p q k) (list p′ q′ k′) = clashing q p′ λ d. omega (arith, d)
+over-trans F t m n a b c up (struct p q k) (largeList p′ q′ k′) = clashing q p′ λ d. omega (arith, d)
+over-trans F t m n a b c up (struct p q k) (union p′ q′ r′ k′) = clashing q p′ λ d. omega (arith, d)
+over-trans F t m n a b c up (list p q k) (identical e) = subst (λ x. GrownOver (λ t. t) (λ f. f) F n a x) e (weaken up (list p q k))
+over-trans F t m n a b c up (list p q k) (wasNull e w) = clashing q e λ d. omega (arith, d)
+over-trans F t m n a b c up (list p q k) (struct p′ q′ k′) = clashing q p′ λ d. omega (arith, d)
+over-trans F t m n a b c up (list p q k) (list p′ q′ k′) = list p q′ (pairwise-trans t k k′)
+over-trans F t m n a b c up (list p q k) (largeList p′ q′ k′) = clashing q p′ λ d. omega (arith, d)
+over-trans F t m n a b c up (list p q k) (union p′ q′ r′ k′) = clashing q p′ λ d. omega (arith, d)
+over-trans F t m n a b c up (largeList p q k) (identical e) = subst (λ x. GrownOver (λ t. t) (λ f. f) F n a x) e (weaken up (largeList p q k))
+over-trans F t m n a b c up (largeList p q k) (wasNull e w) = clashing q e λ d. omega (arith, d)
+over-trans F t m n a b c up (largeList p q k) (struct p′ q′ k′) = clashing q p′ λ d. omega (arith, d)
+over-trans F t m n a b c up (largeList p q k) (list p′ q′ k′) = clashing q p′ λ d. omega (arith, d)
+over-trans F t m n a b c up (largeList p q k) (largeList p′ q′ k′) = largeList p q′ (pairwise-trans t k k′)
+over-trans F t m n a b c up (largeList p q k) (union p′ q′ r′ k′) = clashing q p′ λ d. omega (arith, d)
+over-trans F t m n a b c up (union p q r k) (identical e) = subst (λ x. GrownOver (λ t. t) (λ f. f) F n a x) e (weaken up (union p q r k))
+over-trans F t m n a b c up (union p q r k) (wasNull e w) = clashing q e λ d. omega (arith, d)
+over-trans F t m n a b c up (union p q r k) (struct p′ q′ k′) = clashing q p′ λ d. omega (arith, d)
+over-trans F t m n a b c up (union p q r k) (list p′ q′ k′) = clashing q p′ λ d. omega (arith, d)
+over-trans F t m n a b c up (union p q r k) (largeList p′ q′ k′) = clashing q p′ λ d. omega (arith, d)
+over-trans F t m n a b c up (union p q r k) (union p′ q′ r′ k′) = union p q′ (r ∙ r′) (begins-trans (λ x y z e w. e ∙ w) k k′)
 
-pub grows-trans : (l : ℕ) (m n : Bool) (a b c : DataType l) → (m ≡ true → n ≡ true) → Grows l m a b → Grows l n b c → Grows l n a c
-grows-trans zero m n a b c up x y = absurd a
-grows-trans (suc l) m n a b c up x y = over-trans (Grows l) (grows-trans l) m n a b c up x y
+-- what is Null was Null
+over-null : {T : Type 0} {F : FieldOver T → FieldOver T → Type 0} {n : Bool} {a b : DataTypeOver (FieldOver T)} → GrownOver (λ t. t) (λ f. f) F n a b → b .code ≡ Null → a .code ≡ Null
+over-null (identical e) h = ap (λ t. t .code) e ∙ h
+over-null (wasNull e k) h = e
+over-null (struct p q k) h = clashing q h λ d. omega (arith, d)
+over-null (list p q k) h = clashing q h λ d. omega (arith, d)
+over-null (largeList p q k) h = clashing q h λ d. omega (arith, d)
+over-null (union p q r k) h = clashing q h λ d. omega (arith, d)
 
-field-map : {T : Type 0} {G H : Bool → T → T → Type 0} → ((n : Bool) (a b : T) → G n a b → H n a b) → (f g : FieldOver T) → GrownField G f g → GrownField H f g
+pub grows-null : (parked : Bool) (l : ℕ) (n : Bool) (a b : DataType l) → Grows parked l n a b → isNull l b ≡ true → isNull l a ≡ true
+unfolding isNull
+grows-null parked zero n a b g h = absurd a
+grows-null parked (suc l) n a b g h = eq-eqb _ _ (over-null g (eqb-true _ _ h))
+
+pub grows-trans : (parked : Bool) (l : ℕ) (m n : Bool) (a b c : DataType l) → (m ≡ true → n ≡ true) → Grows parked l m a b → Grows parked l n b c → Grows parked l n a c
+grows-trans parked zero m n a b c up x y = absurd a
+grows-trans parked (suc l) m n a b c up x y =
+    over-trans (GrownField parked (isNull l) (Grows parked l)) (field-trans parked (isNull l) (Grows parked l) (grows-null parked l) (grows-trans parked l)) m n a b c up x y
+
+field-map : {T : Type 0} {parked : Bool} {isNull : T → Bool} {G H : Bool → T → T → Type 0} → ((n : Bool) (a b : T) → G n a b → H n a b) → (f g : FieldOver T)
+    → GrownField parked isNull G f g → GrownField parked isNull H f g
 field-map k f g h = record { name = h .name; dictIsOrdered = h .dictIsOrdered; metadata = h .metadata; nullable = h .nullable; dataType = k _ _ _ (h .dataType) }
 
 -- what is the same as a tree is the same by whatever is compared
-over-map : {T A C : Type 0} (type : DataTypeOver (FieldOver T) → A) (child : FieldOver T → C) {G H : Bool → T → T → Type 0}
-    → ((n : Bool) (a b : T) → G n a b → H n a b) → (n : Bool) (a b : DataTypeOver (FieldOver T))
-    → GrownOver (λ t. t) (λ f. f) G n a b → GrownOver type child H n a b
+over-map : {T A C : Type 0} (type : DataTypeOver (FieldOver T) → A) (child : FieldOver T → C) {E F : FieldOver T → FieldOver T → Type 0}
+    → ((f g : FieldOver T) → E f g → F f g) → (n : Bool) (a b : DataTypeOver (FieldOver T))
+    → GrownOver (λ t. t) (λ f. f) E n a b → GrownOver type child F n a b
 over-map type child g n a b (identical e) = identical (ap type e)
 over-map type child g n a b (wasNull e k) = wasNull e k
-over-map type child g n a b (struct p q k) = struct p q (begins-map (field-map g) k)
-over-map type child g n a b (list p q k) = list p q (pairwise-map (field-map g) k)
-over-map type child g n a b (largeList p q k) = largeList p q (pairwise-map (field-map g) k)
+over-map type child g n a b (struct p q k) = struct p q (begins-map g k)
+over-map type child g n a b (list p q k) = list p q (pairwise-map g k)
+over-map type child g n a b (largeList p q k) = largeList p q (pairwise-map g k)
 over-map type child g n a b (union p q r k) = union p q r (begins-map (λ x y e. ap child e) k)
 
-pub grows-grown : (l : ℕ) (n : Bool) (a b : DataType l) → Grows l n a b → Grown l n a b
-grows-grown zero n a b h = absurd h
-grows-grown (suc l) n a b h = over-map _ _ (grows-grown l) n a b h
+pub grows-grown : (parked : Bool) (l : ℕ) (n : Bool) (a b : DataType l) → Grows parked l n a b → Grown parked l n a b
+grows-grown parked zero n a b h = absurd h
+grows-grown parked (suc l) n a b h = over-map _ _ (field-map (grows-grown parked l)) n a b h
 
 -- Types of which no struct has a name twice, and of which a Null is its code alone
 
@@ -207,7 +225,7 @@ Tidy (suc l) t =
 
 -- Names: where a field is merged in by its name, at most one name is added behind the others
 
-put-name : List Bytes → Bytes → List Bytes
+unfoldable pub put-name : List Bytes → Bytes → List Bytes
 put-name [] n = n ∷ []
 put-name (m ∷ ms) n = choose (sameBytes m n) (λ u. m ∷ ms) λ u. m ∷ put-name ms n
 
@@ -220,7 +238,7 @@ apart-put m n (k ∷ ns) h a = go (sameBytes k n) (apart-put m n ns h (a .1))
     go true r = a
     go false r = (a .0, r)
 
-distinct-put : (ns : List Bytes) (n : Bytes) → Apart ns → Apart (put-name ns n)
+pub distinct-put : (ns : List Bytes) (n : Bytes) → Apart ns → Apart (put-name ns n)
 unfolding put-name choose
 distinct-put [] n d = (tt, tt)
 distinct-put (m ∷ ns) n d = go (sameBytes m n) refl (distinct-put ns n (d .1))
@@ -251,24 +269,25 @@ module _ {T : Type 0} (merge : FieldOver T → FieldOver T → Merged (FieldOver
 -- Each step of a merge lets grow
 
 -- a field grew, and is no shorter
-pub record Grew {T : Type 0} (write : T → Bytes) (G : Bool → T → T → Type 0) (f g : FieldOver T) : Type 0 where
-  pub grown : GrownField G f g
+pub record Grew {T : Type 0} (parked : Bool) (isNull : T → Bool) (write : T → Bytes) (G : Bool → T → T → Type 0) (f g : FieldOver T) : Type 0 where
+  pub grown : GrownField parked isNull G f g
   pub longer : length (fieldBytes write f) ≤ length (fieldBytes write g)
 
-module _ {T : Type 0} (write : T → Bytes) (G : Bool → T → T → Type 0) (grown-refl : (n : Bool) (t : T) → G n t t)
+module _ {T : Type 0} (parked : Bool) (isNull : T → Bool) (write : T → Bytes) (G : Bool → T → T → Type 0) (grown-refl : (n : Bool) (t : T) → G n t t)
+    (grown-null : (n : Bool) (a b : T) → G n a b → isNull b ≡ true → isNull a ≡ true)
     (grown-trans : (m n : Bool) (a b c : T) → (m ≡ true → n ≡ true) → G m a b → G n b c → G n a c) where
-  pub grew-refl : (f : FieldOver T) → Grew write G f f
-  grew-refl f = record { grown = field-refl G grown-refl f; longer = omega arith }
+  pub grew-refl : (f : FieldOver T) → Grew parked isNull write G f f
+  grew-refl f = record { grown = field-refl parked isNull G grown-refl f; longer = omega arith }
 
-  pub grew-trans : (f g h : FieldOver T) → Grew write G f g → Grew write G g h → Grew write G f h
-  grew-trans f g h p q = record { grown = field-trans G grown-trans f g h (p .grown) (q .grown); longer = omega (arith, p .longer, q .longer) }
+  pub grew-trans : (f g h : FieldOver T) → Grew parked isNull write G f g → Grew parked isNull write G g h → Grew parked isNull write G f h
+  grew-trans f g h p q = record { grown = field-trans parked isNull G grown-null grown-trans f g h (p .grown) (q .grown); longer = omega (arith, p .longer, q .longer) }
 
   module _ (N : T → Type 0) (merge : FieldOver T → FieldOver T → Merged (FieldOver T))
-      (merge-grows : (f g : FieldOver T) → N (f .dataType) → N (g .dataType) → Gives (λ h. N (h .dataType) × Grew write G f h) (merge f g)) where
+      (merge-grows : (f g : FieldOver T) → N (f .dataType) → N (g .dataType) → Gives (λ h. N (h .dataType) × Grew parked isNull write G f h) (merge f g)) where
     -- what a list of fields has become
     pub record Became (old new : List (FieldOver T)) : Type 0 where
       pub tidy : Every (λ f. N (f .dataType)) new
-      pub grown : Begins (Grew write G) old new
+      pub grown : Begins (Grew parked isNull write G) old new
 
     by-name-grows : (gs : List (FieldOver T)) (f : FieldOver T) → Every (λ f. N (f .dataType)) gs → N (f .dataType)
         → Gives (λ r. Became gs r × (names r ≡ put-name (names gs) (f .head .name))) (mergeByName merge gs f)
@@ -330,12 +349,12 @@ pub record TypeGrew {T : Type 0} (write : T → Bytes) (G : Bool → T → T →
   pub grown : (now : Bool) → (isNull a ≡ true → now ≡ true) → G now a t
   pub longer : length (write a) ≤ length (write t)
 
-module _ {T : Type 0} (write : T → Bytes) (G : Bool → T → T → Type 0) (N : T → Type 0) (merge : T → T → Merged T) (isNull : T → Bool)
+module _ {T : Type 0} (parked : Bool) (isNull : T → Bool) (write : T → Bytes) (G : Bool → T → T → Type 0) (N : T → Type 0) (merge : T → T → Merged T)
     (merge-grows : (a b : T) → N a → N b → Gives (λ t. TypeGrew write G N isNull a t) (merge a b)) where
-  field-grows : (f g : FieldOver T) → N (f .dataType) → N (g .dataType) → Gives (λ h. N (h .dataType) × Grew write G f h) (mergeField merge isNull f g)
+  field-grows : (f g : FieldOver T) → N (f .dataType) → N (g .dataType) → Gives (λ h. N (h .dataType) × Grew parked isNull write G f h) (mergeField parked merge isNull f g)
   unfolding mergeField
   field-grows f g n m =
-      bind-gives {P = λ u. Unit {0}} _ (need-gives _ 20 tt λ e. tt) λ u h.
+      bind-gives {P = λ u. Unit {0}} _ (need-gives _ 20 tt λ e. tt) λ u z.
       bind-gives _ (metadata-lasts 21 (f .head .metadata) (g .head .metadata)) λ d k.
       bind-gives _ (merge-grows (f .dataType) (g .dataType) n m) λ t q.
       value (
@@ -343,20 +362,20 @@ module _ {T : Type 0} (write : T → Bytes) (G : Bool → T → T → Type 0) (N
         record {
           grown = record {
             name = refl;
-            dictIsOrdered = refl;
+            dictIsOrdered = first-stayed isNull f g parked;
             metadata = k .kept;
             nullable = or-1 (f .head .nullable) (g .head .nullable) (isNull (f .dataType)) (isNull (g .dataType));
             dataType = q .grown _ (or-3 (f .head .nullable) (g .head .nullable) (isNull (f .dataType)) (isNull (g .dataType)));
           };
-          longer = omega (arith, field-length write f, field-length write (record { head = record { typeId = f .head .typeId; nullable = f .head .nullable || g .head .nullable || isNull (f .dataType) || isNull (g .dataType); dictIsOrdered = f .head .dictIsOrdered; name = f .head .name; metadata = d }; dataType = t }), k .longer, q .longer);
+          longer = omega (arith, field-length write f, field-length write (record { head = record { typeId = f .head .typeId; nullable = f .head .nullable || g .head .nullable || isNull (f .dataType) || isNull (g .dataType); dictIsOrdered = mergedOrder parked isNull f g; name = f .head .name; metadata = d }; dataType = t }), k .longer, q .longer);
         },
       )
 
   each-grows : ((n : Bool) (t : T) → G n t t) → (fs gs : List (FieldOver T)) → Every (λ f. N (f .dataType)) fs → Every (λ f. N (f .dataType)) gs
-      → Gives (λ r. Every (λ f. N (f .dataType)) r × Pairwise (Grew write G) fs r) (mergeEach merge isNull fs gs)
+      → Gives (λ r. Every (λ f. N (f .dataType)) r × Pairwise (Grew parked isNull write G) fs r) (mergeEach parked merge isNull fs gs)
   unfolding mergeEach
   each-grows r [] gs e k = value {a = []} (tt, none)
-  each-grows r (f ∷ fs) [] e k = value (e, pairwise-refl (λ f. record { grown = field-refl G r f; longer = omega arith }) (f ∷ fs))
+  each-grows r (f ∷ fs) [] e k = value (e, pairwise-refl (λ f. record { grown = field-refl parked isNull G r f; longer = omega arith }) (f ∷ fs))
   each-grows r (f ∷ fs) (g ∷ gs) e k =
       bind-gives _ (field-grows f g (e .0) (k .0)) λ h p.
       bind-gives _ (each-grows r fs gs (e .1) (k .1)) λ hs q.
@@ -396,11 +415,11 @@ some-bytes : (l : ℕ) (t : DataType (suc l)) → 1 ≤ length (typeBytes (suc l
 unfolding typeBytes
 some-bytes l t = omega arith
 
-grown-list : {T : Type 0} {G : Bool → T → T → Type 0} (now : Bool) (a b : DataTypeOver (FieldOver T)) → (eqb (a .code) List′ || eqb (a .code) LargeList) ≡ true → a .code ≡ b .code
-    → Pairwise (GrownField G) (a .children) (b .children) → GrownOver (λ t. t) (λ f. f) G now a b
-grown-list {G = G} now a b h same k = go (eqb (a .code) List′) (eqb (a .code) LargeList) refl refl h
+grown-list : {T : Type 0} {F : FieldOver T → FieldOver T → Type 0} (now : Bool) (a b : DataTypeOver (FieldOver T)) → (eqb (a .code) List′ || eqb (a .code) LargeList) ≡ true → a .code ≡ b .code
+    → Pairwise F (a .children) (b .children) → GrownOver (λ t. t) (λ f. f) F now a b
+grown-list {F = F} now a b h same k = go (eqb (a .code) List′) (eqb (a .code) LargeList) refl refl h
   where
-    go : (x y : Bool) → eqb (a .code) List′ ≡ x → eqb (a .code) LargeList ≡ y → (x || y) ≡ true → GrownOver (λ t. t) (λ f. f) G now a b
+    go : (x y : Bool) → eqb (a .code) List′ ≡ x → eqb (a .code) LargeList ≡ y → (x || y) ≡ true → GrownOver (λ t. t) (λ f. f) F now a b
     go true y p q h = list (eqb-true _ 27 p) (sym same ∙ eqb-true _ 27 p) k
     go false true p q h = largeList (eqb-true _ 30 q) (sym same ∙ eqb-true _ 30 q) k
     go false false p q h = absurd (false≢true h)
@@ -408,16 +427,17 @@ grown-list {G = G} now a b h same k = go (eqb (a .code) List′) (eqb (a .code) 
 not-null : (c : ℕ) {A : Type 0} → eqb c Null ≡ false → c ≡ Null → A
 not-null c h e = absurd (eqb-false c Null h e)
 
-pub type-grows : (l : ℕ) (a b : DataType l) → Tidy l a → Tidy l b → Gives (λ t. TypeGrew (typeBytes l) (Grows l) (Tidy l) (isNull l) a t) (mergeType l a b)
+pub type-grows : (parked : Bool) (l : ℕ) (a b : DataType l) → Tidy l a → Tidy l b → Gives (λ t. TypeGrew (typeBytes l) (Grows parked l) (Tidy l) (isNull l) a t) (mergeType parked l a b)
 unfolding mergeType mergeSameCode isNull
-type-grows zero a b n m = absurd a
-type-grows (suc l) a b n m =
+type-grows parked zero a b n m = absurd a
+type-grows parked (suc l) a b n m =
     choose-gives _ _ _ (λ p. value (record { tidy = m; grown = λ now k. wasNull (eqb-true _ 0 p) (k p); longer = omega (arith, n .1 (eqb-true _ 0 p), some-bytes l b) })) λ z.
     choose-gives _ _ _ (λ p. value (record { tidy = n; grown = λ now k. identical refl; longer = omega arith })) λ p.
     choose-gives _ _ _ (λ p. refusal) λ p.
     choose-gives _ _ _ (λ p.
     let c : a .code ≡ 32 = eqb-true _ 32 p in
-    bind-gives _ (pour-both (typeBytes l) (Grows l) (grows-refl l) (grows-trans l) (Tidy l) _ (field-grows (typeBytes l) (Grows l) (Tidy l) (mergeType l) (isNull l) (type-grows l))
+    bind-gives _ (pour-both parked (isNull l) (typeBytes l) (Grows parked l) (grows-refl parked l) (grows-null parked l) (grows-trans parked l) (Tidy l) _
+    (field-grows parked (isNull l) (typeBytes l) (Grows parked l) (Tidy l) (mergeType parked l) (type-grows parked l))
     (a .children) (b .children) (n .0 c) (n .2) (m .2)) λ ks k.
     value {a = withChildren a ks} (record {
       tidy = (λ e. k .1, λ e. not-null _ z e, k .0 .tidy);
@@ -435,7 +455,7 @@ type-grows (suc l) a b n m =
       longer = with-longer l a ks (union-longer (typeBytes l) _ (k .1) (union-children _ c));
     }) λ q.
     choose-gives _ _ _ (λ p.
-    bind-gives _ (each-grows (typeBytes l) (Grows l) (Tidy l) (mergeType l) (isNull l) (type-grows l) (grows-refl l) (a .children) (b .children) (n .2) (m .2)) λ ks k.
+    bind-gives _ (each-grows parked (isNull l) (typeBytes l) (Grows parked l) (Tidy l) (mergeType parked l) (type-grows parked l) (grows-refl parked l) (a .children) (b .children) (n .2) (m .2)) λ ks k.
     value {a = withChildren a ks} (record {
       tidy = (λ e. absurd (eqb-false _ 32 s e), λ e. not-null _ z e, k .0);
       grown = λ now u. grown-list now a (withChildren a ks) p refl (pairwise-map (λ f g w. w .grown) (k .1));
@@ -451,9 +471,9 @@ pub record Standing (x : Schema) : Type 0 where
   pub tidy : Every (λ f. Tidy 32 (f .dataType)) (x .columns)
 
 -- a schema grew, and its sheet is no shorter
-pub record SchemaGrew (x y : Schema) : Type 0 where
+pub record SchemaGrew (parked : Bool) (x y : Schema) : Type 0 where
   pub metadata : Kept (x .metadata) (y .metadata)
-  pub columns : Begins (GrownField (Grows 32)) (x .columns) (y .columns)
+  pub columns : Begins (GrownField parked (isNull 32) (Grows parked 32)) (x .columns) (y .columns)
   pub longer : length (sheetBytes x) ≤ length (sheetBytes y)
 
 columns-longer : (xs ys : List (Field 32)) → Begins (λ f g. length (columnBytes f) ≤ length (columnBytes g)) xs ys → length (part (withCount columnBytes) xs) ≤ length (part (withCount columnBytes) ys)
@@ -461,11 +481,12 @@ unfolding withCount u16
 columns-longer [] ys h = omega arith
 columns-longer (x ∷ xs) (y ∷ ys) h = omega (arith, each-longer columnBytes (λ f g p. p) h)
 
-pub schema-grows : (x y : Schema) → Standing x → Every (λ f. Tidy 32 (f .dataType)) (y .columns) → Gives (λ z. Standing z × SchemaGrew x z) (mergeSchema x y)
+pub schema-grows : (parked : Bool) (x y : Schema) → Standing x → Every (λ f. Tidy 32 (f .dataType)) (y .columns) → Gives (λ z. Standing z × SchemaGrew parked x z) (mergeSchema parked x y)
 unfolding mergeSchema sheetBytes metadataPart
-schema-grows x y i j =
+schema-grows parked x y i j =
     bind-gives _ (metadata-lasts 25 (x .metadata) (y .metadata)) λ d k.
-    bind-gives _ (pour-grows (typeBytes 32) (Grows 32) (grows-refl 32) (grows-trans 32) (Tidy 32) _ (field-grows (typeBytes 32) (Grows 32) (Tidy 32) (mergeType 32) (isNull 32) (type-grows 32))
+    bind-gives _ (pour-grows parked (isNull 32) (typeBytes 32) (Grows parked 32) (grows-refl parked 32) (grows-null parked 32) (grows-trans parked 32) (Tidy 32) _
+    (field-grows parked (isNull 32) (typeBytes 32) (Grows parked 32) (Tidy 32) (mergeType parked 32) (type-grows parked 32))
     (x .columns) (y .columns) (i .apart) (i .tidy) j) λ cs q.
     value (
       record { apart = q .1; tidy = q .0 .tidy },
@@ -482,17 +503,17 @@ schema-grows x y i j =
       },
     )
 
-pub schema-refl : (x : Schema) → SchemaGrew x x
-schema-refl x = record { metadata = kept-refl _; columns = begins-refl (field-refl (Grows 32) (grows-refl 32)) _; longer = omega arith }
+pub schema-refl : (parked : Bool) (x : Schema) → SchemaGrew parked x x
+schema-refl parked x = record { metadata = kept-refl _; columns = begins-refl (field-refl parked (isNull 32) (Grows parked 32) (grows-refl parked 32)) _; longer = omega arith }
 
-pub schema-trans : (x y z : Schema) → SchemaGrew x y → SchemaGrew y z → SchemaGrew x z
-schema-trans x y z p q =
+pub schema-trans : (parked : Bool) (x y z : Schema) → SchemaGrew parked x y → SchemaGrew parked y z → SchemaGrew parked x z
+schema-trans parked x y z p q =
     record {
       metadata = kept-trans _ _ _ (p .metadata) (q .metadata);
-      columns = begins-trans (field-trans (Grows 32) (grows-trans 32)) (p .columns) (q .columns);
+      columns = begins-trans (field-trans parked (isNull 32) (Grows parked 32) (grows-null parked 32) (grows-trans parked 32)) (p .columns) (q .columns);
       longer = omega (arith, p .longer, q .longer);
     }
 
 -- what grew as trees grew by its bytes
-pub schema-grown : {x y : Schema} → SchemaGrew x y → GrownSchema x y
-schema-grown h = record { metadata = h .metadata; columns = begins-map (field-map (grows-grown 32)) (h .columns) }
+pub schema-grown : {parked : Bool} {x y : Schema} → SchemaGrew parked x y → GrownSchema parked x y
+schema-grown {parked} h = record { metadata = h .metadata; columns = begins-map (field-map (grows-grown parked 32)) (h .columns) }

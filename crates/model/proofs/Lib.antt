@@ -36,11 +36,14 @@ pub mod LeafCount
 pub mod FilterKeeps
 -- merging
 pub mod SortedMetadata
+pub mod Modes
 pub mod MergeKeeps
+pub mod ModesAgree
 pub mod Size
 pub mod NothingLost
-pub mod MergeAnswers
 pub mod GrownAt
 pub mod Grows
+pub mod StandingFlag
+pub mod MergeAnswers
 pub mod Demand3
 pub mod Demand3Instances

@@ -15,12 +15,13 @@ use Rattle.model.specs.Tree.{DataTypeOver, FieldOver, DataType, Field, S
 use Rattle.model.specs.Tree.{fields, layout}
 use Rattle.model.specs.Read.{got, next}
 use Rattle.model.specs.Equal.{sameField, sameChild, sameType}
-use Rattle.model.specs.Merge.{Merged, done, clash, _>>=_, pour, mergePair, mergeMetadata, mergeByName, mergeChild, mergeField, mergeEach}
+use Rattle.model.specs.Merge.{Merged, done, clash, _>>=_, pour, mergePair, mergeMetadata, mergeByName, mergeChild, ordersAgree, mergeField, mergeEach}
 use Rattle.model.specs.Merge.{isNull, mergeSameCode, mergeType, mergeSchema, empty, placed, mergeFrom, tryMerge}
-use Rattle.model.specs.Growth.{Kept, Pairwise, none, pair}
+use Rattle.model.specs.Growth.{Kept, Stayed, Pairwise, none, pair}
 use Rattle.model.specs.WellFormed.{WellFormedChildren, WellFormedType, WellFormedSchema, SomeOrder}
-use Rattle.model.proofs.Gives.{Gives, value, refusal, of-done, bind-gives, need-gives, choose-gives, gives-map}
-use Rattle.model.proofs.Lists.{or-false, or-left, or-right, beq-eq, every-unit, every-append, every-map}
+use Rattle.model.proofs.Gives.{Gives, value, refusal, of-done, any-gives, bind-gives, need-gives, choose-gives, gives-map}
+use Rattle.model.proofs.Modes.{stayed-trans, first-stayed, second-stayed}
+use Rattle.model.proofs.Lists.{or-false, or-left, or-right, every-unit, every-append, every-map}
 use Rattle.model.proofs.ByteStrings.{same-bytes-eq}
 use Rattle.model.proofs.Layouts.{list-children}
 use Rattle.model.proofs.WellFormed.{children-types, column-types}
@@ -34,17 +35,18 @@ abbrev pub EachIn : {A : Type 0} → (A → A → Type 0) → List A → List A 
 EachIn {A} R xs ys = (x : A) → List·Memᴰ x xs → (y : A) × List·Memᴰ y ys × R x y
 
 -- A field f that was given, in a field h of the answer. Names are compared where the fields stand: a list's child may get another.
--- A field of type Null alone stays as it is; once merged with another it is nullable.
-pub record HeldField {T : Type 0} (H : T → T → Type 0) (isNull : T → Bool) (f h : FieldOver T) : Type 0 where
+-- A field of type Null alone stays as it is; once merged with another it is nullable. Parked log first, the order flag of a Null gives way
+-- to that of the type which it takes: StandingFlag.antt says which flag stands then.
+pub record HeldField {T : Type 0} (parked : Bool) (H : T → T → Type 0) (isNull : T → Bool) (f h : FieldOver T) : Type 0 where
   pub metadata : Kept (f .head .metadata) (h .head .metadata)
-  pub dictIsOrdered : f .head .dictIsOrdered ≡ h .head .dictIsOrdered
+  pub dictIsOrdered : Stayed parked (isNull (f .dataType)) (f .head .dictIsOrdered) (h .head .dictIsOrdered)
   pub nullable : f .head .nullable ≡ true → h .head .nullable ≡ true
   pub null : isNull (f .dataType) ≡ true → (h .head .nullable ≡ true) ⊎ (isNull (h .dataType) ≡ true)
   pub dataType : H (f .dataType) (h .dataType)
 
 -- a column or a struct's child: in one of its name
-abbrev pub HeldByName : {T : Type 0} → (T → T → Type 0) → (T → Bool) → FieldOver T → FieldOver T → Type 0
-HeldByName H isNull f h = (f .head .name ≡ h .head .name) × HeldField H isNull f h
+abbrev pub HeldByName : {T : Type 0} → Bool → (T → T → Type 0) → (T → Bool) → FieldOver T → FieldOver T → Type 0
+HeldByName parked H isNull f h = (f .head .name ≡ h .head .name) × HeldField parked H isNull f h
 
 -- a union's child: in an equal one of its id
 abbrev pub HeldById : {T : Type 0} → (T → T → Bool) → FieldOver T → FieldOver T → Type 0
@@ -60,22 +62,22 @@ IsOther c = Every (λ d. c ≡ d → ⊥) (Null ∷ List′ ∷ LargeList ∷ St
 -- A type b that was given, in a type t of the answer. Of a Null nothing is asked. `H`, `isNull` and `eq` speak of the children's types,
 -- `eqOver` is equality of types such as b and t. Not asked, since the Rust's merge drops them: the mode of a later union, the name of a
 -- later list's child, and the order flags inside types and union children that are equal, since equality ignores those flags.
-pub record HeldOver {T : Type 0} (H : T → T → Type 0) (isNull : T → Bool) (eq : T → T → Bool)
+pub record HeldOver {T : Type 0} (parked : Bool) (H : T → T → Type 0) (isNull : T → Bool) (eq : T → T → Bool)
     (eqOver : DataTypeOver (FieldOver T) → DataTypeOver (FieldOver T) → Bool) (b t : DataTypeOver (FieldOver T)) : Type 0 where
-  pub struct : b .code ≡ Struct → (t .code ≡ Struct) × EachIn (HeldByName H isNull) (b .children) (t .children)
+  pub struct : b .code ≡ Struct → (t .code ≡ Struct) × EachIn (HeldByName parked H isNull) (b .children) (t .children)
   pub union : b .code ≡ Union → (t .code ≡ Union) × EachIn (HeldById eq) (b .children) (t .children)
-  pub list : IsList (b .code) → (t .code ≡ b .code) × Pairwise (HeldField H isNull) (b .children) (t .children)
+  pub list : IsList (b .code) → (t .code ≡ b .code) × Pairwise (HeldField parked H isNull) (b .children) (t .children)
   pub other : IsOther (b .code) → eqOver b t ≡ true
 
 -- by levels
-abbrev pub Held : (l : ℕ) → DataType l → DataType l → Type 0
-Held zero b t = ⊥
-Held (suc l) b t = HeldOver (Held l) (isNull l) (sameType l) (sameType (suc l)) b t
+abbrev pub Held : Bool → (l : ℕ) → DataType l → DataType l → Type 0
+Held parked zero b t = ⊥
+Held parked (suc l) b t = HeldOver parked (Held parked l) (isNull l) (sameType l) (sameType (suc l)) b t
 
 -- a schema x that was given, in the schema z of the answer
-pub record HeldSchema (x z : Schema) : Type 0 where
+pub record HeldSchema (parked : Bool) (x z : Schema) : Type 0 where
   pub metadata : Kept (x .metadata) (z .metadata)
-  pub columns : EachIn (HeldByName (Held maxLevels) (isNull maxLevels)) (x .columns) (z .columns)
+  pub columns : EachIn (HeldByName parked (Held parked maxLevels) (isNull maxLevels)) (x .columns) (z .columns)
 
 -- how many columns the schemas have together
 abbrev pub columnsGiven : List Schema → ℕ
@@ -104,29 +106,29 @@ module _ {A : Type 0} (R : A → A → Type 0) where
       let (z, m, q) = k y j in
       (z, m, t x y z p q)
 
-module _ {T : Type 0} {H : T → T → Type 0} {isNull : T → Bool} where
+module _ {T : Type 0} {parked : Bool} {H : T → T → Type 0} {isNull : T → Bool} where
   -- a field is held in itself
-  pub held-field-refl : ((t : T) → H t t) → (f : FieldOver T) → HeldField H isNull f f
-  held-field-refl r f = record { metadata = kept-refl _; dictIsOrdered = refl; nullable = λ e. e; null = λ e. inr e; dataType = r _ }
+  pub held-field-refl : ((t : T) → H t t) → (f : FieldOver T) → HeldField parked H isNull f f
+  held-field-refl r f = record { metadata = kept-refl _; dictIsOrdered = inl refl; nullable = λ e. e; null = λ e. inr e; dataType = r _ }
 
   -- a field held in one that is held in a third is held in the third
-  pub held-field-trans : ((a b c : T) → H a b → H b c → H a c)
-      → (f g h : FieldOver T) → HeldField H isNull f g → HeldField H isNull g h → HeldField H isNull f h
-  held-field-trans t f g h p q =
+  pub held-field-trans : ((a b : T) → H a b → isNull b ≡ true → isNull a ≡ true) → ((a b c : T) → H a b → H b c → H a c)
+      → (f g h : FieldOver T) → HeldField parked H isNull f g → HeldField parked H isNull g h → HeldField parked H isNull f h
+  held-field-trans was t f g h p q =
       record {
         metadata = kept-trans _ _ _ (p .metadata) (q .metadata);
-        dictIsOrdered = p .dictIsOrdered ∙ q .dictIsOrdered;
+        dictIsOrdered = stayed-trans parked (isNull (f .dataType)) (isNull (g .dataType)) _ _ _ (was _ _ (p .dataType)) (p .dictIsOrdered) (q .dictIsOrdered);
         nullable = λ e. q .nullable (p .nullable e);
         null = λ e. ⊎-elim (λ n. inl (q .nullable n)) (q .null) (p .null e);
         dataType = t _ _ _ (p .dataType) (q .dataType);
       }
 
-  by-name-refl : ((t : T) → H t t) → (f : FieldOver T) → HeldByName H isNull f f
+  by-name-refl : ((t : T) → H t t) → (f : FieldOver T) → HeldByName parked H isNull f f
   by-name-refl r f = (refl, held-field-refl r f)
 
-  by-name-trans : ((a b c : T) → H a b → H b c → H a c)
-      → (f g h : FieldOver T) → HeldByName H isNull f g → HeldByName H isNull g h → HeldByName H isNull f h
-  by-name-trans t f g h p q = (p .0 ∙ q .0, held-field-trans t f g h (p .1) (q .1))
+  by-name-trans : ((a b : T) → H a b → isNull b ≡ true → isNull a ≡ true) → ((a b c : T) → H a b → H b c → H a c)
+      → (f g h : FieldOver T) → HeldByName parked H isNull f g → HeldByName parked H isNull g h → HeldByName parked H isNull f h
+  by-name-trans was t f g h p q = (p .0 ∙ q .0, held-field-trans was t f g h (p .1) (q .1))
 
 module _ {T : Type 0} {eq : T → T → Bool} (E : Equivalence eq) where
   by-id-refl : (f : FieldOver T) → HeldById eq f f
@@ -136,13 +138,13 @@ module _ {T : Type 0} {eq : T → T → Bool} (E : Equivalence eq) where
   by-id-trans f g h p q = (p .0 ∙ q .0, transitive (field-equivalence E) f g h (p .1) (q .1))
 
 -- a type is held in itself
-pub held-refl : (l : ℕ) (t : DataType l) → Held l t t
-held-refl zero t = absurd t
-held-refl (suc l) t =
+pub held-refl : (parked : Bool) (l : ℕ) (t : DataType l) → Held parked l t t
+held-refl parked zero t = absurd t
+held-refl parked (suc l) t =
     record {
-      struct = λ e. (e, each-in-refl _ (by-name-refl (held-refl l)) (t .children));
+      struct = λ e. (e, each-in-refl _ (by-name-refl (held-refl parked l)) (t .children));
       union = λ e. (e, each-in-refl _ (by-id-refl (type-equivalence l)) (t .children));
-      list = λ e. (refl, pairwise-refl (held-field-refl (held-refl l)) (t .children));
+      list = λ e. (refl, pairwise-refl (held-field-refl (held-refl parked l)) (t .children));
       other = λ n. type-equivalence (suc l) .self t;
     }
 
@@ -150,15 +152,47 @@ same-code : (l : ℕ) (a b : DataType (suc l)) → sameType (suc l) a b ≡ true
 unfolding sameType
 same-code l a b h = eqb-true _ _ (and-eq-true-iff _ _ .0 (and-eq-true-iff _ _ .0 h .0) .0)
 
+list-codes : (c : ℕ) → (eqb c List′ || eqb c LargeList) ≡ true → IsList c
+list-codes c h = go (eqb c List′) refl h
+  where
+    go : (b : Bool) → eqb c List′ ≡ b → (b || eqb c LargeList) ≡ true → IsList c
+    go true e h = inl (eqb-true _ _ e)
+    go false e h = inr (eqb-true _ _ h)
+
+other-code : (c : ℕ) → eqb c Null ≡ false → eqb c Struct ≡ false → eqb c Union ≡ false → (eqb c List′ || eqb c LargeList) ≡ false → IsOther c
+other-code c p q r h =
+    let (s, t) = or-false _ _ h in
+    (eqb-false _ _ p, (eqb-false _ _ s, (eqb-false _ _ t, (eqb-false _ _ q, (eqb-false _ _ r, tt)))))
+
+list-bounds : (c : ℕ) → IsList c → (List′ ≤ c) × (c ≤ LargeList)
+list-bounds c (inl e) = omega (arith, e)
+list-bounds c (inr e) = omega (arith, e)
+
+-- what a type is held in is not Null, unless the type was
+held-null : (parked : Bool) (l : ℕ) (a b : DataType l) → Held parked l a b → isNull l b ≡ true → isNull l a ≡ true
+unfolding isNull
+held-null parked zero a b h n = absurd a
+held-null parked (suc l) a b h n = go (eqb (a .code) Null) (eqb (a .code) Struct) (eqb (a .code) Union) (eqb (a .code) List′ || eqb (a .code) LargeList) refl refl refl refl
+  where
+    null : b .code ≡ Null
+    null = eqb-true _ _ n
+
+    go : (p q r s : Bool) → eqb (a .code) Null ≡ p → eqb (a .code) Struct ≡ q → eqb (a .code) Union ≡ r → (eqb (a .code) List′ || eqb (a .code) LargeList) ≡ s → p ≡ true
+    go true q r s e f g k = refl
+    go false true r s e f g k = absurd (omega (arith, null, h .struct (eqb-true _ _ f) .0))
+    go false false true s e f g k = absurd (omega (arith, null, h .union (eqb-true _ _ g) .0))
+    go false false false true e f g k = let i = list-codes _ k in absurd (omega (arith, null, h .list i .0, list-bounds _ i))
+    go false false false false e f g k = absurd (eqb-false _ _ e (same-code l a b (h .other (other-code _ e f g k)) ∙ null))
+
 -- a type held in one that is held in a third is held in the third
-pub held-trans : (l : ℕ) (a b c : DataType l) → Held l a b → Held l b c → Held l a c
-held-trans zero a b c p q = absurd a
-held-trans (suc l) a b c p q =
+pub held-trans : (parked : Bool) (l : ℕ) (a b c : DataType l) → Held parked l a b → Held parked l b c → Held parked l a c
+held-trans parked zero a b c p q = absurd a
+held-trans parked (suc l) a b c p q =
     record {
       struct = λ e.
           let (f, x) = p .struct e in
           let (g, y) = q .struct f in
-          (g, each-in-trans _ (by-name-trans (held-trans l)) (a .children) (b .children) (c .children) x y);
+          (g, each-in-trans _ (by-name-trans (held-null parked l) (held-trans parked l)) (a .children) (b .children) (c .children) x y);
       union = λ e.
           let (f, x) = p .union e in
           let (g, y) = q .union f in
@@ -166,22 +200,22 @@ held-trans (suc l) a b c p q =
       list = λ e.
           let (f, x) = p .list e in
           let (g, y) = q .list (subst IsList (sym f) e) in
-          (g ∙ f, pairwise-trans (held-field-trans (held-trans l)) x y);
+          (g ∙ f, pairwise-trans (held-field-trans (held-null parked l) (held-trans parked l)) x y);
       other = λ n.
           let h = p .other n in
           transitive (type-equivalence (suc l)) a b c h (q .other (subst IsOther (same-code l a b h) n));
     }
 
 -- a schema is held in itself
-pub held-schema-refl : (x : Schema) → HeldSchema x x
-held-schema-refl x = record { metadata = kept-refl _; columns = each-in-refl _ (by-name-refl (held-refl maxLevels)) (x .columns) }
+pub held-schema-refl : (parked : Bool) (x : Schema) → HeldSchema parked x x
+held-schema-refl parked x = record { metadata = kept-refl _; columns = each-in-refl _ (by-name-refl (held-refl parked maxLevels)) (x .columns) }
 
 -- a schema held in one that is held in a third is held in the third
-pub held-schema-trans : (x y z : Schema) → HeldSchema x y → HeldSchema y z → HeldSchema x z
-held-schema-trans x y z p q =
+pub held-schema-trans : (parked : Bool) (x y z : Schema) → HeldSchema parked x y → HeldSchema parked y z → HeldSchema parked x z
+held-schema-trans parked x y z p q =
     record {
       metadata = kept-trans _ _ _ (p .metadata) (q .metadata);
-      columns = each-in-trans _ (by-name-trans (held-trans maxLevels)) (x .columns) (y .columns) (z .columns) (p .columns) (q .columns);
+      columns = each-in-trans _ (by-name-trans (held-null parked maxLevels) (held-trans parked maxLevels)) (x .columns) (y .columns) (z .columns) (p .columns) (q .columns);
     }
 
 -- Lists into which elements are merged: metadata, columns, a struct's children, a union's children
@@ -283,14 +317,14 @@ metadata-held n old new =
 abbrev pub Over : {T : Type 0} → (T → Type 0) → FieldOver T → Type 0
 Over N f = N (f .dataType)
 
-module _ {T : Type 0} (N : T → Type 0) (H : T → T → Type 0) (merge : T → T → Merged T) (isNull : T → Bool)
+module _ {T : Type 0} (N : T → Type 0) (parked : Bool) (H : T → T → Type 0) (merge : T → T → Merged T) (isNull : T → Bool)
     (merge-holds : (a b : T) → N a → N b → Gives (λ t. N t × H a t × H b t) (merge a b)) where
   -- both fields are held in what their merge gives, which has the first's name
   pub field-held : (f g : FieldOver T) → Over N f → Over N g
-      → Gives (λ h. Over N h × (f .head .name ≡ h .head .name) × HeldField H isNull f h × HeldField H isNull g h) (mergeField merge isNull f g)
+      → Gives (λ h. Over N h × (f .head .name ≡ h .head .name) × HeldField parked H isNull f h × HeldField parked H isNull g h) (mergeField parked merge isNull f g)
   unfolding mergeField
   field-held f g n m =
-      bind-gives {P = λ u. f .head .dictIsOrdered ≡ g .head .dictIsOrdered} _ (need-gives _ orderedClash tt λ e. beq-eq _ _ e) λ u o.
+      bind-gives {P = λ u. ordersAgree parked isNull f g ≡ true} _ (need-gives _ orderedClash tt λ e. e) λ u o.
       bind-gives _ (metadata-held fieldMetadataClash (f .head .metadata) (g .head .metadata)) λ ps k.
       bind-gives _ (merge-holds (f .dataType) (g .dataType) n m) λ t q.
       let a = f .head .nullable in
@@ -302,14 +336,14 @@ module _ {T : Type 0} (N : T → Type 0) (H : T → T → Type 0) (merge : T →
         refl,
         record {
           metadata = k .0;
-          dictIsOrdered = refl;
+          dictIsOrdered = first-stayed isNull f g parked;
           nullable = λ e. or-left (a || b || c) d (or-left (a || b) c (or-left a b e));
           null = λ e. inl (or-left (a || b || c) d (or-right (a || b) c e));
           dataType = q .1;
         },
         record {
           metadata = k .1;
-          dictIsOrdered = sym o;
+          dictIsOrdered = second-stayed isNull f g parked o;
           nullable = λ e. or-left (a || b || c) d (or-left (a || b) c (or-right a b e));
           null = λ e. inl (or-right (a || b || c) d e);
           dataType = q .2;
@@ -318,8 +352,8 @@ module _ {T : Type 0} (N : T → Type 0) (H : T → T → Type 0) (merge : T →
 
   -- the children of two lists, as many of the one as of the other, are held one by one
   pub each-held : (fs gs : List (FieldOver T)) → length fs ≡ length gs → Every (Over N) fs → Every (Over N) gs
-      → Gives (λ hs. Every (Over N) hs × (length hs ≡ length fs) × Pairwise (HeldField H isNull) fs hs × Pairwise (HeldField H isNull) gs hs)
-      (mergeEach merge isNull fs gs)
+      → Gives (λ hs. Every (Over N) hs × (length hs ≡ length fs) × Pairwise (HeldField parked H isNull) fs hs × Pairwise (HeldField parked H isNull) gs hs)
+      (mergeEach parked merge isNull fs gs)
   unfolding mergeEach
   each-held [] [] z e k = value {a = []} (tt, refl, none, none)
   each-held [] (g ∷ gs) z e k = absurd (omega (arith, z))
@@ -329,9 +363,9 @@ module _ {T : Type 0} (N : T → Type 0) (H : T → T → Type 0) (merge : T →
       bind-gives _ (each-held fs gs (omega (arith, z)) (e .1) (k .1)) λ hs q.
       value {a = h ∷ hs} ((p .0, q .0), ap suc (q .1), pair (p .2) (q .2), pair (p .3) (q .3))
 
-  module _ (H-refl : (t : T) → H t t) (H-trans : (a b c : T) → H a b → H b c → H a c) where
+  module _ (H-refl : (t : T) → H t t) (was : (a b : T) → H a b → isNull b ≡ true → isNull a ≡ true) (H-trans : (a b c : T) → H a b → H b c → H a c) where
     by-name-gathers : (gs : List (FieldOver T)) (f : FieldOver T) → Every (Over N) gs → Over N f
-        → Gives (Gathered (Over N) (HeldByName H isNull) gs (f ∷ [])) (mergeByName (mergeField merge isNull) gs f)
+        → Gives (Gathered (Over N) (HeldByName parked H isNull) gs (f ∷ [])) (mergeByName (mergeField parked merge isNull) gs f)
     unfolding mergeByName
     by-name-gathers [] f e n = value (before-all _ _ (by-name-refl H-refl) f [] n tt)
     by-name-gathers (g ∷ gs) f e n =
@@ -342,8 +376,8 @@ module _ {T : Type 0} (N : T → Type 0) (H : T → T → Type 0) (merge : T →
 
     -- each field that stood or came is held in one of its name, and there are no more fields than stood and came
     pub by-name-held : (gs fs : List (FieldOver T)) → Every (Over N) gs → Every (Over N) fs
-        → Gives (Gathered (Over N) (HeldByName H isNull) gs fs) (pour (mergeByName (mergeField merge isNull)) gs fs)
-    by-name-held = pour-gathers _ _ (by-name-refl H-refl) (by-name-trans H-trans) _ by-name-gathers
+        → Gives (Gathered (Over N) (HeldByName parked H isNull) gs fs) (pour (mergeByName (mergeField parked merge isNull)) gs fs)
+    by-name-held = pour-gathers _ _ (by-name-refl H-refl) (by-name-trans was H-trans) _ by-name-gathers
 
 module _ {T : Type 0} (N : T → Type 0) (eq : T → T → Bool) (E : Equivalence eq) where
   child-gathers : (gs : List (FieldOver T)) (f : FieldOver T) → Every (Over N) gs → Over N f
@@ -363,26 +397,10 @@ module _ {T : Type 0} (N : T → Type 0) (eq : T → T → Bool) (E : Equivalenc
 
 -- Types
 
-list-codes : (c : ℕ) → (eqb c List′ || eqb c LargeList) ≡ true → IsList c
-list-codes c h = go (eqb c List′) refl h
-  where
-    go : (b : Bool) → eqb c List′ ≡ b → (b || eqb c LargeList) ≡ true → IsList c
-    go true e h = inl (eqb-true _ _ e)
-    go false e h = inr (eqb-true _ _ h)
-
-other-code : (c : ℕ) → eqb c Null ≡ false → eqb c Struct ≡ false → eqb c Union ≡ false → (eqb c List′ || eqb c LargeList) ≡ false → IsOther c
-other-code c p q r h =
-    let (s, t) = or-false _ _ h in
-    (eqb-false _ _ p, (eqb-false _ _ s, (eqb-false _ _ t, (eqb-false _ _ q, (eqb-false _ _ r, tt)))))
-
-list-bounds : (c : ℕ) → IsList c → (List′ ≤ c) × (c ≤ LargeList)
-list-bounds c (inl e) = omega (arith, e)
-list-bounds c (inr e) = omega (arith, e)
-
 -- by the code of the type that was given
-module _ {T : Type 0} {H : T → T → Type 0} {isNull : T → Bool} {eq : T → T → Bool}
+module _ {T : Type 0} {parked : Bool} {H : T → T → Type 0} {isNull : T → Bool} {eq : T → T → Bool}
     {eqOver : DataTypeOver (FieldOver T) → DataTypeOver (FieldOver T) → Bool} (b t : DataTypeOver (FieldOver T)) where
-  null-held : b .code ≡ Null → HeldOver H isNull eq eqOver b t
+  null-held : b .code ≡ Null → HeldOver parked H isNull eq eqOver b t
   null-held e =
       record {
         struct = λ f. absurd (omega (arith, e, f));
@@ -391,7 +409,7 @@ module _ {T : Type 0} {H : T → T → Type 0} {isNull : T → Bool} {eq : T →
         other = λ n. absurd (n .0 e);
       }
 
-  struct-held : b .code ≡ Struct → t .code ≡ Struct → EachIn (HeldByName H isNull) (b .children) (t .children) → HeldOver H isNull eq eqOver b t
+  struct-held : b .code ≡ Struct → t .code ≡ Struct → EachIn (HeldByName parked H isNull) (b .children) (t .children) → HeldOver parked H isNull eq eqOver b t
   struct-held e e′ h =
       record {
         struct = λ f. (e′, h);
@@ -400,7 +418,7 @@ module _ {T : Type 0} {H : T → T → Type 0} {isNull : T → Bool} {eq : T →
         other = λ n. absurd (n .1 .1 .1 .0 e);
       }
 
-  union-held : b .code ≡ Union → t .code ≡ Union → EachIn (HeldById eq) (b .children) (t .children) → HeldOver H isNull eq eqOver b t
+  union-held : b .code ≡ Union → t .code ≡ Union → EachIn (HeldById eq) (b .children) (t .children) → HeldOver parked H isNull eq eqOver b t
   union-held e e′ h =
       record {
         struct = λ f. absurd (omega (arith, e, f));
@@ -409,7 +427,7 @@ module _ {T : Type 0} {H : T → T → Type 0} {isNull : T → Bool} {eq : T →
         other = λ n. absurd (n .1 .1 .1 .1 .0 e);
       }
 
-  list-held : IsList (b .code) → t .code ≡ b .code → Pairwise (HeldField H isNull) (b .children) (t .children) → HeldOver H isNull eq eqOver b t
+  list-held : IsList (b .code) → t .code ≡ b .code → Pairwise (HeldField parked H isNull) (b .children) (t .children) → HeldOver parked H isNull eq eqOver b t
   list-held e e′ h =
       record {
         struct = λ f. absurd (omega (arith, f, list-bounds _ e));
@@ -418,7 +436,7 @@ module _ {T : Type 0} {H : T → T → Type 0} {isNull : T → Bool} {eq : T →
         other = λ n. absurd (⊎-elim (n .1 .0) (n .1 .1 .0) e);
       }
 
-  other-held : IsOther (b .code) → eqOver b t ≡ true → HeldOver H isNull eq eqOver b t
+  other-held : IsOther (b .code) → eqOver b t ≡ true → HeldOver parked H isNull eq eqOver b t
   other-held n h =
       record {
         struct = λ f. absurd (n .1 .1 .1 .0 f);
@@ -428,18 +446,18 @@ module _ {T : Type 0} {H : T → T → Type 0} {isNull : T → Bool} {eq : T →
       }
 
 -- what a merge of a and b gives: both are held in t
-abbrev pub BothHeld : (l : ℕ) → DataType l → DataType l → DataType l → Type 0
-BothHeld l a b t = OneChild l t × Held l a t × Held l b t
+abbrev pub BothHeld : Bool → (l : ℕ) → DataType l → DataType l → DataType l → Type 0
+BothHeld parked l a b t = OneChild l t × Held parked l a t × Held parked l b t
 
 -- each field that stood or came is held in one of its name, if the types of one level below are held in what their merge gives
-fields-held : (l : ℕ) → ((a b : DataType l) → OneChild l a → OneChild l b → Gives (BothHeld l a b) (mergeType l a b))
+fields-held : (parked : Bool) (l : ℕ) → ((a b : DataType l) → OneChild l a → OneChild l b → Gives (BothHeld parked l a b) (mergeType parked l a b))
     → (gs fs : List (Field l)) → Every (Over (OneChild l)) gs → Every (Over (OneChild l)) fs
-    → Gives (Gathered (Over (OneChild l)) (HeldByName (Held l) (isNull l)) gs fs) (pour (mergeByName (mergeField (mergeType l) (isNull l))) gs fs)
-fields-held l h = by-name-held (OneChild l) (Held l) (mergeType l) (isNull l) h (held-refl l) (held-trans l)
+    → Gives (Gathered (Over (OneChild l)) (HeldByName parked (Held parked l) (isNull l)) gs fs) (pour (mergeByName (mergeField parked (mergeType parked l) (isNull l))) gs fs)
+fields-held parked l h = by-name-held (OneChild l) parked (Held parked l) (mergeType parked l) (isNull l) h (held-refl parked l) (held-null parked l) (held-trans parked l)
 
-module _ (l : ℕ) (a b : DataType (suc l)) (code : a .code ≡ b .code) where
-  structs-held : a .code ≡ Struct → (ks : List (Field l)) → Gathered (Over (OneChild l)) (HeldByName (Held l) (isNull l)) [] (a .children ++ b .children) ks
-      → BothHeld (suc l) a b (withChildren a ks)
+module _ (parked : Bool) (l : ℕ) (a b : DataType (suc l)) (code : a .code ≡ b .code) where
+  structs-held : a .code ≡ Struct → (ks : List (Field l)) → Gathered (Over (OneChild l)) (HeldByName parked (Held parked l) (isNull l)) [] (a .children ++ b .children) ks
+      → BothHeld parked (suc l) a b (withChildren a ks)
   structs-held e ks k = (
     (λ q. absurd (omega (arith, e, list-bounds _ q)), k .each),
     struct-held a (withChildren a ks) e e (λ c i. k .new c (Memᴰ·append-left (b .children) i)),
@@ -447,7 +465,7 @@ module _ (l : ℕ) (a b : DataType (suc l)) (code : a .code ≡ b .code) where
   )
 
   unions-held : a .code ≡ Union → (ks : List (Field l)) → Gathered (Over (OneChild l)) (HeldById (sameType l)) (a .children) (b .children) ks
-      → BothHeld (suc l) a b (withChildren a ks)
+      → BothHeld parked (suc l) a b (withChildren a ks)
   unions-held e ks k = (
     (λ q. absurd (omega (arith, e, list-bounds _ q)), k .each),
     union-held a (withChildren a ks) e e (k .old),
@@ -455,99 +473,95 @@ module _ (l : ℕ) (a b : DataType (suc l)) (code : a .code ≡ b .code) where
   )
 
   lists-held : IsList (a .code) → (ks : List (Field l)) → Every (Over (OneChild l)) ks → length ks ≡ 1
-      → Pairwise (HeldField (Held l) (isNull l)) (a .children) ks → Pairwise (HeldField (Held l) (isNull l)) (b .children) ks
-      → BothHeld (suc l) a b (withChildren a ks)
+      → Pairwise (HeldField parked (Held parked l) (isNull l)) (a .children) ks → Pairwise (HeldField parked (Held parked l) (isNull l)) (b .children) ks
+      → BothHeld parked (suc l) a b (withChildren a ks)
   lists-held e ks n one p q =
       ((λ i. one, n), list-held a (withChildren a ks) e refl p, list-held b (withChildren a ks) (subst IsList code e) code q)
 
   others-held : IsOther (a .code) → OneChild (suc l) a → (sameBytes (a .params) (b .params) && same (sameChild (sameType l)) (a .children) (b .children)) ≡ true
-      → BothHeld (suc l) a b a
+      → BothHeld parked (suc l) a b a
   unfolding sameType
   others-held o n h =
       let (p, q) = and-eq-true-iff _ _ .0 h in
       let e : sameType (suc l) a b ≡ true = and-eq-true-iff _ _ .1 (and-eq-true-iff _ _ .1 (eq-eqb _ _ code, p), q) in
-      (n, held-refl (suc l) a, other-held b a (subst IsOther code o) (symmetric (type-equivalence (suc l)) a b e))
+      (n, held-refl parked (suc l) a, other-held b a (subst IsOther code o) (symmetric (type-equivalence (suc l)) a b e))
 
 -- both types are held in what their merge gives
-pub type-held : (l : ℕ) (a b : DataType l) → OneChild l a → OneChild l b → Gives (BothHeld l a b) (mergeType l a b)
+pub type-held : (parked : Bool) (l : ℕ) (a b : DataType l) → OneChild l a → OneChild l b → Gives (BothHeld parked l a b) (mergeType parked l a b)
 unfolding mergeType mergeSameCode
-type-held zero a b n m = absurd a
-type-held (suc l) a b n m =
-    choose-gives _ _ _ (λ p. value (m, null-held a b (eqb-true _ _ p), held-refl (suc l) b)) λ notNull.
-    choose-gives _ _ _ (λ p. value (n, held-refl (suc l) a, null-held b a (eqb-true _ _ p))) λ p.
+type-held parked zero a b n m = absurd a
+type-held parked (suc l) a b n m =
+    choose-gives _ _ _ (λ p. value (m, null-held a b (eqb-true _ _ p), held-refl parked (suc l) b)) λ notNull.
+    choose-gives _ _ _ (λ p. value (n, held-refl parked (suc l) a, null-held b a (eqb-true _ _ p))) λ p.
     choose-gives _ _ _ (λ p. refusal) λ p.
     let code = eqb-true (a .code) (b .code) (not-false _ p) in
     let children = every-append _ (a .children) (b .children) (n .1) (m .1) in
     choose-gives _ _ _
-    (λ p. bind-gives _ (fields-held l (type-held l) [] (a .children ++ b .children) tt children) λ ks k.
-    value (structs-held l a b code (eqb-true _ _ p) ks k)) λ notStruct.
+    (λ p. bind-gives _ (fields-held parked l (type-held parked l) [] (a .children ++ b .children) tt children) λ ks k.
+    value (structs-held parked l a b code (eqb-true _ _ p) ks k)) λ notStruct.
     choose-gives _ _ _
     (λ p. bind-gives _ (by-id-held (OneChild l) (sameType l) (type-equivalence l) (a .children) (b .children) (n .1) (m .1)) λ ks k.
-    need-gives _ typeIdClash (withChildren a ks) λ i. unions-held l a b code (eqb-true _ _ p) ks k) λ notUnion.
+    need-gives _ typeIdClash (withChildren a ks) λ i. unions-held parked l a b code (eqb-true _ _ p) ks k) λ notUnion.
     choose-gives _ _ _
     (λ p. let x = list-codes (a .code) p in
     let lengths = n .0 x ∙ sym (m .0 (subst IsList code x)) in
-    bind-gives _ (each-held (OneChild l) (Held l) (mergeType l) (isNull l) (type-held l) (a .children) (b .children) lengths (n .1) (m .1)) λ ks k.
-    value (lists-held l a b code x ks (k .0) (k .1 ∙ n .0 x) (k .2) (k .3))) λ notList.
+    bind-gives _ (each-held (OneChild l) parked (Held parked l) (mergeType parked l) (isNull l) (type-held parked l) (a .children) (b .children) lengths (n .1) (m .1)) λ ks k.
+    value (lists-held parked l a b code x ks (k .0) (k .1 ∙ n .0 x) (k .2) (k .3))) λ notList.
     need-gives _ typeClash a λ e.
-    others-held l a b code (other-code _ notNull notStruct notUnion notList) n e
+    others-held parked l a b code (other-code _ notNull notStruct notUnion notList) n e
 
 -- Schemas
 
 -- both schemas are held in what their merge gives, which has no more columns than they have together
-pub schema-held : (x y : Schema) → OneChildEach x → OneChildEach y
-    → Gives (λ z. OneChildEach z × HeldSchema x z × HeldSchema y z × (length (z .columns) ≤ length (x .columns) + length (y .columns))) (mergeSchema x y)
+pub schema-held : (parked : Bool) (x y : Schema) → OneChildEach x → OneChildEach y
+    → Gives (λ z. OneChildEach z × HeldSchema parked x z × HeldSchema parked y z × (length (z .columns) ≤ length (x .columns) + length (y .columns))) (mergeSchema parked x y)
 unfolding mergeSchema
-schema-held x y n m =
+schema-held parked x y n m =
     bind-gives _ (metadata-held schemaMetadataClash (x .metadata) (y .metadata)) λ d k.
-    bind-gives _ (fields-held maxLevels (type-held maxLevels) (x .columns) (y .columns) n m) λ cs q.
+    bind-gives _ (fields-held parked maxLevels (type-held parked maxLevels) (x .columns) (y .columns) n m) λ cs q.
     value (q .each, record { metadata = k .0; columns = q .old }, record { metadata = k .1; columns = q .new }, q .size)
 
-schemas-held : (x : Schema) (ys : List Schema) → OneChildEach x → Every OneChildEach ys
-    → Gives (λ z. HeldSchema x z × Every (λ y. HeldSchema y z) ys × (length (z .columns) ≤ length (x .columns) + columnsGiven ys)) (pour mergeSchema x ys)
+schemas-held : (parked : Bool) (x : Schema) (ys : List Schema) → OneChildEach x → Every OneChildEach ys
+    → Gives (λ z. HeldSchema parked x z × Every (λ y. HeldSchema parked y z) ys × (length (z .columns) ≤ length (x .columns) + columnsGiven ys)) (pour (mergeSchema parked) x ys)
 unfolding pour
-schemas-held x [] n m = value (held-schema-refl x, tt, omega arith)
-schemas-held x (y ∷ ys) n m =
-    bind-gives _ (schema-held x y n (m .0)) λ w k.
-    gives-map (schemas-held w ys (k .0) (m .1)) λ z q.
-    (held-schema-trans x w z (k .1) (q .0), (held-schema-trans y w z (k .2) (q .0), q .1), omega (arith, k .3, q .2))
+schemas-held parked x [] n m = value (held-schema-refl parked x, tt, omega arith)
+schemas-held parked x (y ∷ ys) n m =
+    bind-gives _ (schema-held parked x y n (m .0)) λ w k.
+    gives-map (schemas-held parked w ys (k .0) (m .1)) λ z q.
+    (held-schema-trans parked x w z (k .1) (q .0), (held-schema-trans parked y w z (k .2) (q .0), q .1), omega (arith, k .3, q .2))
 
 -- an accepted merge of sheets gives what pouring one schema after the other gives: places matter to refusals alone
-pub merge-from-pour : (i : ℕ) (x : Schema) (ys : List Schema) (z : Schema) (e : ℕ) → mergeFrom i x ys ≡ got z e → pour mergeSchema x ys ≡ done z
+pub merge-from-pour : (parked : Bool) (i : ℕ) (x : Schema) (ys : List Schema) (z : Schema) (e : ℕ) → mergeFrom parked i x ys ≡ got z e → pour (mergeSchema parked) x ys ≡ done z
 unfolding mergeFrom pour next placed _>>=_
-merge-from-pour i x [] z e h = cc
-merge-from-pour i x (y ∷ ys) z e h = go (mergeSchema x y) h λ w. merge-from-pour (suc i) w ys z e
+merge-from-pour parked i x [] z e h = cc
+merge-from-pour parked i x (y ∷ ys) z e h = go (mergeSchema parked x y) h λ w. merge-from-pour parked (suc i) w ys z e
   where
-    go : (r : Merged Schema) → next (placed i r) (λ w j. mergeFrom j w ys) ≡ got z e
-        → ((w : Schema) → mergeFrom (suc i) w ys ≡ got z e → pour mergeSchema w ys ≡ done z) → (r >>= λ w. pour mergeSchema w ys) ≡ done z
+    go : (r : Merged Schema) → next (placed i r) (λ w j. mergeFrom parked j w ys) ≡ got z e
+        → ((w : Schema) → mergeFrom parked (suc i) w ys ≡ got z e → pour (mergeSchema parked) w ys ≡ done z) → (r >>= λ w. pour (mergeSchema parked) w ys) ≡ done z
     go (done w) h rest = rest w h
     go (clash n) h rest = let q : _≡_ {A = ℕ} 0 1 = cc in absurd (omega arith)
 
 -- Where two fields are merged, a Null of either makes the column nullable; only a Null that nothing was merged with stays as it is (P2).
-pub null-makes-nullable : {T : Type 0} (merge : T → T → Merged T) (isNull : T → Bool) (f g : FieldOver T) → (isNull (f .dataType) || isNull (g .dataType)) ≡ true
-    → Gives (λ h. h .head .nullable ≡ true) (mergeField merge isNull f g)
+pub null-makes-nullable : {T : Type 0} (parked : Bool) (merge : T → T → Merged T) (isNull : T → Bool) (f g : FieldOver T) → (isNull (f .dataType) || isNull (g .dataType)) ≡ true
+    → Gives (λ h. h .head .nullable ≡ true) (mergeField parked merge isNull f g)
 unfolding mergeField
-null-makes-nullable merge isNull f g n =
+null-makes-nullable parked merge isNull f g n =
     bind-gives _ (any-gives _) λ u h.
     bind-gives _ (any-gives _) λ m k.
     bind-gives _ (any-gives _) λ t q.
     value (either (f .head .nullable) (g .head .nullable) (isNull (f .dataType)) (isNull (g .dataType)) n)
   where
-    any-gives : {A : Type 0} (r : Merged A) → Gives (λ a. Unit {0}) r
-    any-gives (done a) = value tt
-    any-gives (clash m) = refusal
-
     either : (a b c d : Bool) → (c || d) ≡ true → (a || b || c || d) ≡ true
     either true b c d h = refl
     either false true c d h = refl
     either false false c d h = h
 
 -- In an accepted merge nothing is lost: each schema given is held in the answer, which has no more columns than were given.
-pub nothing-lost : (xs : List Schema) (z : Schema) (e : ℕ) → Every OneChildEach xs → tryMerge xs ≡ got z e
-    → Every (λ x. HeldSchema x z) xs × (length (z .columns) ≤ columnsGiven xs)
+pub nothing-lost : (parked : Bool) (xs : List Schema) (z : Schema) (e : ℕ) → Every OneChildEach xs → tryMerge parked xs ≡ got z e
+    → Every (λ x. HeldSchema parked x z) xs × (length (z .columns) ≤ columnsGiven xs)
 unfolding tryMerge
-nothing-lost xs z e n h =
-    let k = of-done (subst (Gives _) (merge-from-pour 0 empty xs z e h) (schemas-held empty xs tt n)) in
+nothing-lost parked xs z e n h =
+    let k = of-done (subst (Gives _) (merge-from-pour parked 0 empty xs z e h) (schemas-held parked empty xs tt n)) in
     (k .1, omega (arith, k .2))
 
 -- What reads is so: in a well-formed tree each List and LargeList has one child

@@ -389,21 +389,21 @@ module _ {T : Type 0} where
   merge-child-clashes eq (g ∷ gs) f =
       choose-either (Clashes _) _ _ _ (need-clashes _ equalChildClash (g ∷ gs) refl) (bind-clashes (merge-child-clashes eq gs f) λ r. merges)
 
-module _ {T : Type 0} (merge : T → T → Merged T) (isNull : T → Bool) (h : (a b : T) → Clashes Clashing (merge a b)) where
-  merge-field-clashes : (f g : FieldOver T) → Clashes Clashing (mergeField merge isNull f g)
+module _ {T : Type 0} (parked : Bool) (merge : T → T → Merged T) (isNull : T → Bool) (h : (a b : T) → Clashes Clashing (merge a b)) where
+  merge-field-clashes : (f g : FieldOver T) → Clashes Clashing (mergeField parked merge isNull f g)
   unfolding mergeField among
   merge-field-clashes f g =
       bind-clashes (need-clashes _ orderedClash tt refl) λ u.
       bind-clashes (merge-metadata-clashes fieldMetadataClash refl (f .head .metadata) (g .head .metadata)) λ m.
       bind-clashes (h (f .dataType) (g .dataType)) λ t. merges
 
-  merge-each-clashes : (fs gs : List (FieldOver T)) → Clashes Clashing (mergeEach merge isNull fs gs)
+  merge-each-clashes : (fs gs : List (FieldOver T)) → Clashes Clashing (mergeEach parked merge isNull fs gs)
   unfolding mergeEach
   merge-each-clashes [] gs = merges
   merge-each-clashes (f ∷ fs) [] = merges
   merge-each-clashes (f ∷ fs) (g ∷ gs) = bind-clashes (merge-field-clashes f g) λ x. bind-clashes (merge-each-clashes fs gs) λ r. merges
 
-  merge-same-code-clashes : (eq : T → T → Bool) (a b : DataTypeOver (FieldOver T)) → Clashes Clashing (mergeSameCode merge isNull eq a b)
+  merge-same-code-clashes : (eq : T → T → Bool) (a b : DataTypeOver (FieldOver T)) → Clashes Clashing (mergeSameCode parked merge isNull eq a b)
   unfolding mergeSameCode among
   merge-same-code-clashes eq a b =
       choose-either (Clashes _) _ _ _
@@ -414,32 +414,32 @@ module _ {T : Type 0} (merge : T → T → Merged T) (isNull : T → Bool) (h : 
       (bind-clashes (merge-each-clashes (a .children) (b .children)) λ ks. merges)
       (need-clashes _ typeClash a refl)))
 
-merge-type-clashes : (l : ℕ) (a b : DataType l) → Clashes Clashing (mergeType l a b)
+merge-type-clashes : (parked : Bool) (l : ℕ) (a b : DataType l) → Clashes Clashing (mergeType parked l a b)
 unfolding mergeType among
-merge-type-clashes zero a b = absurd a
-merge-type-clashes (suc l) a b =
+merge-type-clashes parked zero a b = absurd a
+merge-type-clashes parked (suc l) a b =
     choose-either (Clashes _) _ _ _ merges
     (choose-either (Clashes _) _ _ _ merges
     (choose-either (Clashes _) _ _ _ (clashes refl)
-    (merge-same-code-clashes (λ x y. mergeType l x y) _ (λ x y. merge-type-clashes l x y) _ a b)))
+    (merge-same-code-clashes parked (λ x y. mergeType parked l x y) _ (λ x y. merge-type-clashes parked l x y) _ a b)))
 
 -- two schemas clash with 20 to 25
-pub merge-schema-clashes : (x y : Schema) → Clashes (Among clashNumbers) (mergeSchema x y)
+pub merge-schema-clashes : (parked : Bool) (x y : Schema) → Clashes (Among clashNumbers) (mergeSchema parked x y)
 unfolding mergeSchema among all
-merge-schema-clashes x y =
+merge-schema-clashes parked x y =
     bind-clashes (merge-metadata-clashes schemaMetadataClash refl (x .metadata) (y .metadata)) λ m.
     bind-clashes (clashes-map (among-more fieldNumbers clashNumbers refl)
-    (pour-clashes _ (merge-by-name-clashes _ (merge-field-clashes _ _ (merge-type-clashes maxLevels))) (x .columns) (y .columns))) λ cs. merges
+    (pour-clashes _ (merge-by-name-clashes _ (merge-field-clashes parked _ _ (merge-type-clashes parked maxLevels))) (x .columns) (y .columns))) λ cs. merges
 
-merge-from-refuses : (i : ℕ) (x : Schema) (ys : List Schema) → Refuses (Among clashNumbers) (mergeFrom i x ys)
+merge-from-refuses : (parked : Bool) (i : ℕ) (x : Schema) (ys : List Schema) → Refuses (Among clashNumbers) (mergeFrom parked i x ys)
 unfolding mergeFrom
-merge-from-refuses i x [] = gives
-merge-from-refuses i x (y ∷ ys) = next-refuses (placed-refuses i (merge-schema-clashes x y)) λ z j. merge-from-refuses j z ys
+merge-from-refuses parked i x [] = gives
+merge-from-refuses parked i x (y ∷ ys) = next-refuses (placed-refuses i (merge-schema-clashes parked x y)) λ z j. merge-from-refuses parked j z ys
 
 -- a list of schemas clashes with 20 to 25
-pub try-merge-refuses : (xs : List Schema) → Refuses (Among clashNumbers) (tryMerge xs)
+pub try-merge-refuses : (parked : Bool) (xs : List Schema) → Refuses (Among clashNumbers) (tryMerge parked xs)
 unfolding tryMerge
-try-merge-refuses xs = merge-from-refuses 0 _ xs
+try-merge-refuses parked xs = merge-from-refuses parked 0 _ xs
 
 -- Index lists
 
@@ -483,11 +483,11 @@ try-new-step (i ∷ ids) (suc n) seen place =
 -- The answers: in each law, the numbers that the operation may refuse with
 
 -- a merge is refused with the numbers of reading a train and of a clash
-pub merge-refuses : (train : Bytes) → AnswersBy mergeNumbers (mergeAnswer train)
+pub merge-refuses : (parked : Bool) (train : Bytes) → AnswersBy mergeNumbers (mergeAnswer parked train)
 unfolding mergeAnswer among all
-merge-refuses train =
+merge-refuses parked train =
     then-answers (refuses-map (among-more trainNumbers mergeNumbers refl) (train-refuses train)) λ xs.
-    sheet-answers (refuses-map (among-more clashNumbers mergeNumbers refl) (try-merge-refuses xs))
+    sheet-answers (refuses-map (among-more clashNumbers mergeNumbers refl) (try-merge-refuses parked xs))
 
 -- a projection: those of a sheet and of its list
 pub project-refuses : (strict : Bool) (sheet list : Bytes) → AnswersBy (projectNumbers strict) (projectAnswer strict sheet list)
@@ -557,9 +557,9 @@ try-from-fields-refuses count = then-answers (choose-either (Refuses _) _ _ _ gi
 
 -- So 0 means accepted: no operation refuses with it, whatever it is given
 
-pub merge-numbered : (train : Bytes) → Numbered (mergeAnswer train)
+pub merge-numbered : (parked : Bool) (train : Bytes) → Numbered (mergeAnswer parked train)
 unfolding among
-merge-numbered train = answers-numbered mergeNumbers refl (merge-refuses train)
+merge-numbered parked train = answers-numbered mergeNumbers refl (merge-refuses parked train)
 
 pub project-numbered : (strict : Bool) (sheet list : Bytes) → Numbered (projectAnswer strict sheet list)
 unfolding among

@@ -124,11 +124,11 @@ pub children-size : {T : Type 0} (f : T → Bytes) (eq : T → T → Bool) (gs f
     → Gives (Within (childBytes f) gs fs) (pour (mergeChild eq) gs fs)
 children-size f eq gs fs = pour-within (childBytes f) (mergeChild eq) (child-step f eq) gs fs
 
-module _ {T : Type 0} (w : T → Bytes) (merge : T → T → Merged T) (isNull : T → Bool) (saved : ℕ)
+module _ {T : Type 0} (w : T → Bytes) (parked : Bool) (merge : T → T → Merged T) (isNull : T → Bool) (saved : ℕ)
     (merge-size : (a b : T) → Gives (λ t. length (w t) + saved ≤ length (w a) + length (w b)) (merge a b)) where
   -- If a merge of types saves so many bytes at least, a merge of fields saves one more: two had a map, one is left.
   pub field-size : (f g : FieldOver T)
-      → Gives (λ h. length (fieldBytes w h) + suc saved ≤ length (fieldBytes w f) + length (fieldBytes w g)) (mergeField merge isNull f g)
+      → Gives (λ h. length (fieldBytes w h) + suc saved ≤ length (fieldBytes w f) + length (fieldBytes w g)) (mergeField parked merge isNull f g)
   unfolding mergeField fieldBytes headBytes
   field-size f g =
       bind-gives {P = λ u. Unit {0}} _ (need-gives _ orderedClash tt λ e. tt) λ u z.
@@ -137,11 +137,11 @@ module _ {T : Type 0} (w : T → Bytes) (merge : T → T → Merged T) (isNull :
       value (simp length-append (omega (arith, k, q)))
 
   -- So a merge of the fields of two schemas or two structs makes no more fields than it was given, and no more bytes.
-  pub fields-size : (gs fs : List (FieldOver T)) → Gives (Within (fieldBytes w) gs fs) (pour (mergeByName (mergeField merge isNull)) gs fs)
-  fields-size = by-name-size w (mergeField merge isNull) λ g h. gives-map (field-size g h) λ r k. omega (arith, k)
+  pub fields-size : (gs fs : List (FieldOver T)) → Gives (Within (fieldBytes w) gs fs) (pour (mergeByName (mergeField parked merge isNull)) gs fs)
+  fields-size = by-name-size w (mergeField parked merge isNull) λ g h. gives-map (field-size g h) λ r k. omega (arith, k)
 
   -- So for the child of a list type and that of another.
-  pub each-size : (fs gs : List (FieldOver T)) → Gives (Within (fieldBytes w) fs gs) (mergeEach merge isNull fs gs)
+  pub each-size : (fs gs : List (FieldOver T)) → Gives (Within (fieldBytes w) fs gs) (mergeEach parked merge isNull fs gs)
   unfolding mergeEach
   each-size [] gs = value (within-left (fieldBytes w) [] gs)
   each-size (f ∷ fs) [] = value (within-left (fieldBytes w) (f ∷ fs) [])
@@ -169,16 +169,16 @@ same-code-size l a b k ks same e h =
     omega (arith, h, length-typeBytes l (withChildren a ks) e, length-typeBytes l a e, length-typeBytes l b e′)
 
 -- A merge of types saves a byte at least: two had a code, one is left.
-pub type-size : (l : ℕ) (a b : DataType l) → Gives (λ t. length (typeBytes l t) + 1 ≤ length (typeBytes l a) + length (typeBytes l b)) (mergeType l a b)
+pub type-size : (parked : Bool) (l : ℕ) (a b : DataType l) → Gives (λ t. length (typeBytes l t) + 1 ≤ length (typeBytes l a) + length (typeBytes l b)) (mergeType parked l a b)
 unfolding mergeType mergeSameCode childrenBytes
-type-size zero a b = absurd a
-type-size (suc l) a b =
+type-size parked zero a b = absurd a
+type-size parked (suc l) a b =
     choose-gives _ _ _ (λ p. value (omega (arith, length-typeBytes l a refl))) λ p.
     choose-gives _ _ _ (λ p. value (omega (arith, length-typeBytes l b refl))) λ p.
     choose-gives _ _ _ (λ p. refusal) λ d.
     let same : a .code ≡ b .code = eqb-true _ _ (not-false _ d) in
     choose-gives _ _ _ (λ p.
-    bind-gives _ (fields-size (typeBytes l) (mergeType l) (isNull l) 1 (type-size l) [] (a .children ++ b .children)) λ ks k.
+    bind-gives _ (fields-size (typeBytes l) parked (mergeType parked l) (isNull l) 1 (type-size parked l) [] (a .children ++ b .children)) λ ks k.
     let q = within-append (fieldBytes (typeBytes l)) (a .children) (b .children) k in
     value (same-code-size l a b counted ks same (struct-children _ (eqb-true _ Struct p)) (omega (arith, withCount-within (fieldBytes (typeBytes l)) q)))) λ p.
     choose-gives _ _ _ (λ p.
@@ -186,35 +186,35 @@ type-size (suc l) a b =
     need-gives _ typeIdClash (withChildren a ks) λ i.
     same-code-size l a b countedWithIds ks same (union-children _ (eqb-true _ Union p)) (omega (arith, withCount-within (childBytes (typeBytes l)) k))) λ p.
     choose-gives _ _ _ (λ p.
-    bind-gives _ (each-size (typeBytes l) (mergeType l) (isNull l) 1 (type-size l) (a .children) (b .children)) λ ks k.
+    bind-gives _ (each-size (typeBytes l) parked (mergeType parked l) (isNull l) 1 (type-size parked l) (a .children) (b .children)) λ ks k.
     value (same-code-size l a b (fields 1) ks same (list-children _ p) (k .bytes))) λ p.
     need-gives _ typeClash a λ e. omega (arith, length-typeBytes l b refl)
 
 -- Schemas
 
 -- A merge of schemas saves a byte at least: two sheets had a map, one is left.
-pub schema-size : (x y : Schema) → Gives (λ z. length (sheetBytes z) + 1 ≤ length (sheetBytes x) + length (sheetBytes y)) (mergeSchema x y)
+pub schema-size : (parked : Bool) (x y : Schema) → Gives (λ z. length (sheetBytes z) + 1 ≤ length (sheetBytes x) + length (sheetBytes y)) (mergeSchema parked x y)
 unfolding mergeSchema sheetBytes
-schema-size x y =
+schema-size parked x y =
     bind-gives _ (metadata-part-size schemaMetadataClash (x .metadata) (y .metadata)) λ m k.
-    bind-gives _ (fields-size (typeBytes maxLevels) (mergeType maxLevels) (isNull maxLevels) 1 (type-size maxLevels) (x .columns) (y .columns)) λ cs q.
+    bind-gives _ (fields-size (typeBytes maxLevels) parked (mergeType parked maxLevels) (isNull maxLevels) 1 (type-size parked maxLevels) (x .columns) (y .columns)) λ cs q.
     value (simp length-append (omega (arith, k, part-within columnBytes (x .columns) (y .columns) cs q)))
 
 -- So a byte for each sheet merged onto what there is.
-pub from-size : (i : ℕ) (x : Schema) (ys : List Schema) (z : Schema) (e : ℕ) → mergeFrom i x ys ≡ got z e
+pub from-size : (parked : Bool) (i : ℕ) (x : Schema) (ys : List Schema) (z : Schema) (e : ℕ) → mergeFrom parked i x ys ≡ got z e
     → length (sheetBytes z) + length ys ≤ length (sheetBytes x) + length (each sheetBytes ys)
 unfolding mergeFrom next placed
-from-size i x [] z e h = let same : x ≡ z = cc in omega (arith, ap (λ x. length (sheetBytes x)) same)
-from-size i x (y ∷ ys) z e h = go (mergeSchema x y) (schema-size x y) (λ w. from-size (suc i) w ys z e) h
+from-size parked i x [] z e h = let same : x ≡ z = cc in omega (arith, ap (λ x. length (sheetBytes x)) same)
+from-size parked i x (y ∷ ys) z e h = go (mergeSchema parked x y) (schema-size parked x y) (λ w. from-size parked (suc i) w ys z e) h
   where
     go : (r : Merged Schema) → Gives (λ w. length (sheetBytes w) + 1 ≤ length (sheetBytes x) + length (sheetBytes y)) r
-        → ((w : Schema) → mergeFrom (suc i) w ys ≡ got z e → length (sheetBytes z) + length ys ≤ length (sheetBytes w) + length (each sheetBytes ys))
-        → next (placed i r) (λ w j. mergeFrom j w ys) ≡ got z e
+        → ((w : Schema) → mergeFrom parked (suc i) w ys ≡ got z e → length (sheetBytes z) + length ys ≤ length (sheetBytes w) + length (each sheetBytes ys))
+        → next (placed i r) (λ w j. mergeFrom parked j w ys) ≡ got z e
         → length (sheetBytes z) + suc (length ys) ≤ length (sheetBytes x) + length (each sheetBytes (y ∷ ys))
     go (done w) (value g) k h = omega (arith, g, k w h, length-append (sheetBytes y) (each sheetBytes ys))
     go (clash n) refusal k h = let z : _≡_ {A = ℕ} 0 1 = cc in absurd (omega arith)
 
 -- The merge of a train is written in at most as many bytes as its sheets, less one for each sheet but the first; that of no sheets in one.
-pub train-size : (xs : List Schema) (z : Schema) (e : ℕ) → tryMerge xs ≡ got z e → length (sheetBytes z) + length xs ≤ 1 + length (each sheetBytes xs)
+pub train-size : (parked : Bool) (xs : List Schema) (z : Schema) (e : ℕ) → tryMerge parked xs ≡ got z e → length (sheetBytes z) + length xs ≤ 1 + length (each sheetBytes xs)
 unfolding tryMerge sheetBytes
-train-size xs z e h = from-size 0 empty xs z e h
+train-size parked xs z e h = from-size parked 0 empty xs z e h

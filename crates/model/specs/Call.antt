@@ -1,9 +1,9 @@
 -- A call: what each operation answers to the bytes given, and what is left in the buffers.
 use Prim.Native.Nat.{ℕ, _+_, _*_}
 use mathlib.Core.List.{[], _∷_, _++_, map}
-use mathlib.Core.Bool.{Bool}
+use mathlib.Core.Bool.{Bool, not}
 use lib.ListN.{length, drop, replicate}
-use lib.Dec.{ltb}
+use lib.Dec.{eqb, ltb}
 use Rattle.model.specs.Numbers.{maxLevels, maxSheetBytes, workBytesPerSheetByte, accepted, answerTooLong, answerBufferShort, workBufferShort}
 use Rattle.model.specs.Bytes.{Bytes, choose, u16, flag}
 use Rattle.model.specs.Tree.{Schema}
@@ -37,8 +37,9 @@ sheetAnswer r = andThen r λ x. bytes (sheetBytes x)
 unfoldable pub yesNo : Bool → Answer
 yesNo b = bytes (flag 1 b ∷ [])
 
-unfoldable pub mergeAnswer : Bytes → Answer
-mergeAnswer train = andThen (readTrain train) λ xs. sheetAnswer (tryMerge xs)
+-- in the Rust's mode or parked log first
+unfoldable pub mergeAnswer : Bool → Bytes → Answer
+mergeAnswer parked train = andThen (readTrain train) λ xs. sheetAnswer (tryMerge parked xs)
 
 -- true: strict
 unfoldable pub projectAnswer : Bool → Bytes → Bytes → Answer
@@ -114,8 +115,12 @@ call given outcome work answer =
 
 -- The calls. One sheet or train:
 
-abbrev pub mergeCall : Bytes → (work answer : Bytes) → Exit
-mergeCall train = call (length train) (mergeAnswer train)
+abbrev pub mergeCall : Bool → Bytes → (work answer : Bytes) → Exit
+mergeCall parked train = call (length train) (mergeAnswer parked train)
+
+-- the mode that the desk asks for by a number: 0 is the Rust's, any other is parked log first
+unfoldable pub modeOf : ℕ → Bool
+modeOf n = not (eqb n 0)
 
 abbrev pub projectCall : Bool → Bytes → Bytes → (work answer : Bytes) → Exit
 projectCall strict sheet list = call (length sheet) (projectAnswer strict sheet list)

@@ -1,4 +1,4 @@
--- P1 to P12 of document 01, "Bench trials", as one list.
+-- P1 to P12 of document 01, "Bench trials", and document 02's P5 in the mode "Parked log first", as one list.
 use Prim.Native.Nat.{ℕ}
 use mathlib.Core.Path.{_≡_}
 use mathlib.Core.List.{List, [], _∷_, _++_}
@@ -6,6 +6,7 @@ use mathlib.Core.Bool.{true, false}
 use Rattle.model.specs.Bytes.{Bytes}
 use Rattle.model.specs.Tree.{Schema}
 use Rattle.model.specs.Read.{Step, got, bad, readSheet}
+use Rattle.model.specs.Merge.{asTheRust, parkedFirst}
 use Rattle.model.specs.Filter.{leafCount}
 use Rattle.model.specs.Call.{Answer, bytes, refused, mergeAnswer, projectAnswer, filterAnswer, normalizeAnswer, containsAnswer}
 
@@ -18,7 +19,7 @@ one f = 0x02 ∷ 0x01 ∷ 0x00 ∷ f
 abbrev pub two : Bytes → Bytes → Bytes
 two f g = 0x02 ∷ 0x02 ∷ 0x00 ∷ f ++ g
 
--- a field with a name of one byte, not nullable; the same nullable, and with the ordered bit
+-- a field with a name of one byte, not nullable; the same nullable, with the ordered bit, and both
 abbrev pub field : ℕ → Bytes → Bytes
 field name t = 0x04 ∷ 0x01 ∷ 0x00 ∷ name ∷ t
 
@@ -27,6 +28,9 @@ nullable name t = 0x05 ∷ 0x01 ∷ 0x00 ∷ name ∷ t
 
 abbrev pub ordered : ℕ → Bytes → Bytes
 ordered name t = 0x06 ∷ 0x01 ∷ 0x00 ∷ name ∷ t
+
+abbrev pub nullableOrdered : ℕ → Bytes → Bytes
+nullableOrdered name t = 0x07 ∷ 0x01 ∷ 0x00 ∷ name ∷ t
 
 -- `v:T` "is a non-nullable column"
 abbrev pub v : Bytes → Bytes
@@ -94,6 +98,13 @@ unfoldable pub leavesOf : Step Schema → ℕ
 leavesOf (got t p) = leafCount t
 leavesOf (bad n p) = 0
 
+-- P5: Dictionary(Int8, Utf8); and Struct{x:T, y:List(x:T)} around a field x:T
+abbrev pub p5 : Bytes
+p5 = dictionary int8 utf8
+
+abbrev pub around : Bytes → Bytes
+around f = v (struct 2 (f ++ field y (list f)))
+
 -- P6: Union{0 x:Int8, 1 x:Int8}
 abbrev pub p6 : Bytes
 p6 = v (union 0 2 ((0 ∷ field x int8) ++ (1 ∷ field x int8)))
@@ -116,26 +127,33 @@ p12′ = v (union 0 1 (0 ∷ field x int8))
 abbrev pub trials : List Trial
 trials =
     -- P1 empty train: the byte 00
-    answers (mergeAnswer []) (bytes (0x00 ∷ []))
+    answers (mergeAnswer asTheRust []) (bytes (0x00 ∷ []))
     -- P2 `v:Null` alone: unchanged
-    ∷ answers (mergeAnswer (v null)) (bytes (v null))
+    ∷ answers (mergeAnswer asTheRust (v null)) (bytes (v null))
     -- P3, to the byte
     ∷ answers
-    (mergeAnswer
+    (mergeAnswer asTheRust
     (0x02 ∷ 0x01 ∷ 0x00 ∷ 0x04 ∷ 0x01 ∷ 0x00 ∷ 0x76 ∷ 0x00 ∷ 0x02 ∷ 0x01 ∷ 0x00 ∷ 0x04 ∷ 0x01 ∷ 0x00 ∷ 0x76 ∷ 0x04 ∷ []))
     (bytes (0x02 ∷ 0x01 ∷ 0x00 ∷ 0x05 ∷ 0x01 ∷ 0x00 ∷ 0x76 ∷ 0x04 ∷ []))
     -- P4 `v:Null` twice: nullable Null
-    ∷ answers (mergeAnswer (v null ++ v null)) (bytes (one (nullable 0x76 null)))
+    ∷ answers (mergeAnswer asTheRust (v null ++ v null)) (bytes (one (nullable 0x76 null)))
     -- P5 `v:Null`, then ordered Dictionary(Int8, Utf8): 20, place 1
-    ∷ answers (mergeAnswer (v null ++ one (ordered 0x76 (dictionary int8 utf8)))) (refused 20 1)
+    ∷ answers (mergeAnswer asTheRust (v null ++ one (ordered 0x76 p5))) (refused 20 1)
+    -- "P5 then gives a nullable ordered dictionary"; so it does the other way round, where the flag is there already
+    ∷ answers (mergeAnswer parkedFirst (v null ++ one (ordered 0x76 p5))) (bytes (one (nullableOrdered 0x76 p5)))
+    ∷ answers (mergeAnswer parkedFirst (one (ordered 0x76 p5) ++ v null)) (bytes (one (nullableOrdered 0x76 p5)))
+    -- "at any depth the merge reaches"
+    ∷ answers (mergeAnswer parkedFirst (around (field x null) ++ around (ordered x p5))) (bytes (around (nullableOrdered x p5)))
+    -- "20 only between two types that are not Null"
+    ∷ answers (mergeAnswer parkedFirst (v p5 ++ one (ordered 0x76 p5))) (refused 20 1)
     -- P6 Union{0 x:Int8, 1 x:Int8} twice: 23, place 1
-    ∷ answers (mergeAnswer (p6 ++ p6)) (refused 23 1)
+    ∷ answers (mergeAnswer asTheRust (p6 ++ p6)) (refused 23 1)
     -- P7 sparse {0 x:Int8}, dense {1 y:Int8}: sparse, both children
-    ∷ answers (mergeAnswer (v (union 0 1 (0 ∷ field x int8)) ++ v (union 1 1 (1 ∷ field y int8))))
+    ∷ answers (mergeAnswer asTheRust (v (union 0 1 (0 ∷ field x int8)) ++ v (union 1 1 (1 ∷ field y int8))))
     (bytes (v (union 0 2 ((0 ∷ field x int8) ++ (1 ∷ field y int8)))))
     -- P8 List(item:Int8), List(element:Int8): child stays item
     ∷ answers
-    (mergeAnswer
+    (mergeAnswer asTheRust
     (v (list (0x04 ∷ 4 ∷ 0 ∷ 0x69 ∷ 0x74 ∷ 0x65 ∷ 0x6D ∷ int8))
     ++ v (list (0x04 ∷ 7 ∷ 0 ∷ 0x65 ∷ 0x6C ∷ 0x65 ∷ 0x6D ∷ 0x65 ∷ 0x6E ∷ 0x74 ∷ int8))))
     (bytes (v (list (0x04 ∷ 4 ∷ 0 ∷ 0x69 ∷ 0x74 ∷ 0x65 ∷ 0x6D ∷ int8))))

@@ -2,13 +2,15 @@
 use Prim.Native.Nat.{ℕ, zero, suc}
 use mathlib.Core.Path.{_≡_}
 use mathlib.Core.List.{List, [], _∷_, _++_, map, List·Memᴰ}
-use mathlib.Core.Bool.{Bool, true}
+use mathlib.Core.Bool.{Bool, true, _&&_}
+use mathlib.Core.Logic.{_⊎_}
 use lib.ListN.{length, take}
 use Rattle.model.specs.Numbers.{maxLevels, accepted}
 use Rattle.model.specs.Bytes.{Bytes, AreBytes, Metadata, Every}
 use Rattle.model.specs.Tree.{DataTypeOver, FieldOver, DataType, Schema, Null, List′, LargeList, Struct, Union}
 use Rattle.model.specs.Sheet.{each, fieldBytes, typeBytes}
 use Rattle.model.specs.Read.{got, readSheet}
+use Rattle.model.specs.Merge.{isNull}
 use Rattle.model.specs.Call.{Exit, mergeCall}
 
 -- the second list begins with the first, related element by element
@@ -25,11 +27,15 @@ pub data Pairwise {A : Type 0} (R : A → A → Type 0) : List A → List A → 
 abbrev pub Kept : Metadata → Metadata → Type 0
 Kept old new = (p : Bytes × Bytes) → List·Memᴰ p old → List·Memᴰ p new
 
+-- an order flag stayed; or, parked log first, it was that of a Null: that mode lets "the order flag change where the old type was Null"
+abbrev pub Stayed : (parked null old new : Bool) → Type 0
+Stayed parked null old new = (old ≡ new) ⊎ ((parked && null) ≡ true)
+
 -- "A field grew if name and order flag are equal, old metadata is all kept, nullable stayed if set, and the type is identical or grew."
 -- `G nullable t t′` says the last of a type t and the type t′ of a field that is now nullable or not.
-pub record GrownField {T : Type 0} (G : Bool → T → T → Type 0) (f g : FieldOver T) : Type 0 where
+pub record GrownField {T : Type 0} (parked : Bool) (isNull : T → Bool) (G : Bool → T → T → Type 0) (f g : FieldOver T) : Type 0 where
   pub name : f .head .name ≡ g .head .name
-  pub dictIsOrdered : f .head .dictIsOrdered ≡ g .head .dictIsOrdered
+  pub dictIsOrdered : Stayed parked (isNull (f .dataType)) (f .head .dictIsOrdered) (g .head .dictIsOrdered)
   pub metadata : Kept (f .head .metadata) (g .head .metadata)
   pub nullable : f .head .nullable ≡ true → g .head .nullable ≡ true
   pub dataType : G (g .head .nullable) (f .dataType) (g .dataType)
@@ -39,30 +45,30 @@ abbrev pub childBytes : {T : Type 0} → (T → Bytes) → FieldOver T → Bytes
 childBytes write f = f .head .typeId ∷ fieldBytes write f
 
 -- How the type a of a field, now nullable or not, became b. `type` and `child` give what must be equal for two types, or two union
--- children, to count as the same.
-pub data GrownOver {T A C : Type 0} (type : DataTypeOver (FieldOver T) → A) (child : FieldOver T → C) (G : Bool → T → T → Type 0) (nullable : Bool) (a b : DataTypeOver (FieldOver T)) : Type 0 where
-  identical : type a ≡ type b → GrownOver type child G nullable a b
+-- children, to count as the same; `F` says of two fields that one grew into the other.
+pub data GrownOver {T A C : Type 0} (type : DataTypeOver (FieldOver T) → A) (child : FieldOver T → C) (F : FieldOver T → FieldOver T → Type 0) (nullable : Bool) (a b : DataTypeOver (FieldOver T)) : Type 0 where
+  identical : type a ≡ type b → GrownOver type child F nullable a b
   -- "if it was Null and the field holding it is now nullable"
-  wasNull : a .code ≡ Null → nullable ≡ true → GrownOver type child G nullable a b
+  wasNull : a .code ≡ Null → nullable ≡ true → GrownOver type child F nullable a b
   -- "if Struct still begins with its old children in order, each grown"
-  struct : a .code ≡ Struct → b .code ≡ Struct → Begins (GrownField G) (a .children) (b .children) → GrownOver type child G nullable a b
+  struct : a .code ≡ Struct → b .code ≡ Struct → Begins F (a .children) (b .children) → GrownOver type child F nullable a b
   -- "if List or LargeList has its child grown"
-  list : a .code ≡ List′ → b .code ≡ List′ → Pairwise (GrownField G) (a .children) (b .children) → GrownOver type child G nullable a b
-  largeList : a .code ≡ LargeList → b .code ≡ LargeList → Pairwise (GrownField G) (a .children) (b .children) → GrownOver type child G nullable a b
+  list : a .code ≡ List′ → b .code ≡ List′ → Pairwise F (a .children) (b .children) → GrownOver type child F nullable a b
+  largeList : a .code ≡ LargeList → b .code ≡ LargeList → Pairwise F (a .children) (b .children) → GrownOver type child F nullable a b
   -- "if Union keeps its mode and begins with the same children and ids"
   union : a .code ≡ Union → b .code ≡ Union → a .params ≡ b .params → Begins (λ x y. child x ≡ child y) (a .children) (b .children)
-      → GrownOver type child G nullable a b
+      → GrownOver type child F nullable a b
 
 -- The type is identical or grew, under a field that is now nullable or not. "Types and union children count as the same, or identical,
 -- when their bytes are equal."
-abbrev pub Grown : (l : ℕ) → Bool → DataType l → DataType l → Type 0
-Grown zero nullable a b = ⊥
-Grown (suc l) nullable a b = GrownOver (typeBytes (suc l)) (childBytes (typeBytes l)) (Grown l) nullable a b
+abbrev pub Grown : Bool → (l : ℕ) → Bool → DataType l → DataType l → Type 0
+Grown parked zero nullable a b = ⊥
+Grown parked (suc l) nullable a b = GrownOver (typeBytes (suc l)) (childBytes (typeBytes l)) (GrownField parked (isNull l) (Grown parked l)) nullable a b
 
 -- each column at the same index, and the schema's own metadata kept
-pub record GrownSchema (x y : Schema) : Type 0 where
+pub record GrownSchema (parked : Bool) (x y : Schema) : Type 0 where
   pub metadata : Kept (x .metadata) (y .metadata)
-  pub columns : Begins (GrownField (Grown maxLevels)) (x .columns) (y .columns)
+  pub columns : Begins (GrownField parked (isNull maxLevels) (Grown parked maxLevels)) (x .columns) (y .columns)
 
 -- "no struct in any of them holding a name twice". "An empty name counts as a name."
 
@@ -103,15 +109,16 @@ WroteSheet e x = readSheet (take (e .length) (e .answer)) ≡ got x (e .length)
 -- "take two merges with equal buffers, the first given the list, the second the list and then those that follow. If the second is accepted,
 -- so is the first, and" its schema is grown into the second's: said of lists of whichever sheets. "Equal buffers are equal in length, answer
 -- with answer and work with work."
-abbrev pub MergeOnlyGrows : (Bytes → Type 0) → Type 0
-MergeOnlyGrows Sheet =
+abbrev pub MergeOnlyGrows : Bool → (Bytes → Type 0) → Type 0
+MergeOnlyGrows parked Sheet =
     (list following : List Bytes) → Every Sheet list → Every Sheet following →
     (work work′ answer answer′ : Bytes) → length work ≡ length work′ → length answer ≡ length answer′ →
-    let first = mergeCall (endToEnd list) work answer in
-    let second = mergeCall (endToEnd (list ++ following)) work′ answer′ in
+    let first = mergeCall parked (endToEnd list) work answer in
+    let second = mergeCall parked (endToEnd (list ++ following)) work′ answer′ in
     Accepts second →
-    Accepts first × (old : Schema) × (new : Schema) × WroteSheet first old × WroteSheet second new × GrownSchema old new
+    Accepts first × (old : Schema) × (new : Schema) × WroteSheet first old × WroteSheet second new × GrownSchema parked old new
 
--- Demand 3: "For every list of sheets, empty too, and whatever sheets follow it, with no struct in any of them holding a name twice"
+-- Demand 3: "For every list of sheets, empty too, and whatever sheets follow it, with no struct in any of them holding a name twice".
+-- It "speaks of two merges in the same mode" (document 02, Item 6), whichever that is.
 abbrev pub Demand3 : Type 0
-Demand3 = MergeOnlyGrows SheetOfDemand3
+Demand3 = (parked : Bool) → MergeOnlyGrows parked SheetOfDemand3

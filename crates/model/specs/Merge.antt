@@ -1,7 +1,7 @@
 -- The merge: `Field::try_merge`, `UnionFields::try_merge`, `SchemaBuilder::try_merge` and `Schema::try_merge`.
 use Prim.Native.Nat.{ℕ, zero, suc}
 use mathlib.Core.List.{List, [], _∷_, _++_, map}
-use mathlib.Core.Bool.{Bool, true, false, not, _&&_, _||_, Bool·beq}
+use mathlib.Core.Bool.{Bool, true, false, not, _&&_, _||_, cond, Bool·beq}
 use lib.Dec.{eqb}
 use Rattle.model.specs.Numbers.{maxLevels, schemaMetadataClash, orderedClash, fieldMetadataClash, typeClash, equalChildClash, typeIdClash}
 use Rattle.model.specs.Bytes.{Bytes, Metadata, choose, same, sameBytes, below, among}
@@ -62,19 +62,37 @@ module _ {T : Type 0} where
   idsDiffer [] = true
   idsDiffer (f ∷ fs) = not (among (f .head .typeId) (map (λ g. g .head .typeId) fs)) && idsDiffer fs
 
-module _ {T : Type 0} (merge : T → T → Merged T) (isNull : T → Bool) where
+-- The modes of a merge: the Rust's, and "Parked log first" (document 02, Item 6), "a merge mode beside the old one". The mode is a parameter
+-- of the two rules that speak of order flags, `ordersAgree` and `mergedOrder`; everything else is said of both modes at once.
+
+abbrev pub asTheRust : Bool
+asTheRust = false
+
+abbrev pub parkedFirst : Bool
+parkedFirst = true
+
+module _ {T : Type 0} (parked : Bool) (isNull : T → Bool) where
+  -- whether the order flags let a field be merged into another: "the order flags are not compared when either type is Null at that place"
+  unfoldable pub ordersAgree : FieldOver T → FieldOver T → Bool
+  ordersAgree f g = Bool·beq (f .head .dictIsOrdered) (g .head .dictIsOrdered) || (parked && (isNull (f .dataType) || isNull (g .dataType)))
+
+  -- whose order flag stays, the first's but for this: "a Null column that takes a type takes its order flag too"
+  unfoldable pub mergedOrder : FieldOver T → FieldOver T → Bool
+  mergedOrder f g = cond (parked && isNull (f .dataType)) (g .head .dictIsOrdered) (f .head .dictIsOrdered)
+
+module _ {T : Type 0} (parked : Bool) (merge : T → T → Merged T) (isNull : T → Bool) where
   -- `Field::try_merge`: "Checks in order: ordered flags, metadata, type." The first Null becomes nullable, a later Null makes the
   -- column nullable, and "at the end the first is nullable if either is".
   unfoldable pub mergeField : FieldOver T → FieldOver T → Merged (FieldOver T)
   mergeField f g =
-      need (Bool·beq (f .head .dictIsOrdered) (g .head .dictIsOrdered)) orderedClash tt >>= λ (u : Unit {0}).
+      need (ordersAgree parked isNull f g) orderedClash tt >>= λ (u : Unit {0}).
       mergeMetadata fieldMetadataClash (f .head .metadata) (g .head .metadata) >>= λ m.
       merge (f .dataType) (g .dataType) >>= λ t.
       done (record {
         head = record {
           typeId = f .head .typeId;
           nullable = f .head .nullable || g .head .nullable || isNull (f .dataType) || isNull (g .dataType);
-          dictIsOrdered = f .head .dictIsOrdered;
+          dictIsOrdered = mergedOrder parked isNull f g;
           name = f .head .name;
           metadata = m;
         };
@@ -92,34 +110,34 @@ isNull zero t = false
 isNull (suc l) t = eqb (t .code) Null
 
 -- two types of one code, neither Null: the arms of `Field::try_merge` for Struct, Union, List and LargeList, and all others
-module _ {T : Type 0} (merge : T → T → Merged T) (isNull : T → Bool) (eq : T → T → Bool) where
+module _ {T : Type 0} (parked : Bool) (merge : T → T → Merged T) (isNull : T → Bool) (eq : T → T → Bool) where
   unfoldable pub mergeSameCode : DataTypeOver (FieldOver T) → DataTypeOver (FieldOver T) → Merged (DataTypeOver (FieldOver T))
   mergeSameCode a b =
       choose (eqb (a .code) Struct)
-      (λ u. pour (mergeByName (mergeField merge isNull)) [] (a .children ++ b .children) >>= λ ks. done (withChildren a ks)) λ u.
+      (λ u. pour (mergeByName (mergeField parked merge isNull)) [] (a .children ++ b .children) >>= λ ks. done (withChildren a ks)) λ u.
       choose (eqb (a .code) Union)
       (λ u. pour (mergeChild eq) (a .children) (b .children) >>= λ ks. need (idsDiffer ks) typeIdClash (withChildren a ks)) λ u.
       choose (eqb (a .code) List′ || eqb (a .code) LargeList)
-      (λ u. mergeEach merge isNull (a .children) (b .children) >>= λ ks. done (withChildren a ks)) λ u.
+      (λ u. mergeEach parked merge isNull (a .children) (b .children) >>= λ ks. done (withChildren a ks)) λ u.
       need (sameBytes (a .params) (b .params) && same (sameChild eq) (a .children) (b .children)) typeClash a
 
 -- `Field::try_merge`, the match on the types: "The first Null takes the other's type"
-unfoldable pub mergeType : (l : ℕ) → DataType l → DataType l → Merged (DataType l)
-mergeType zero a b = absurd a
-mergeType (suc l) a b =
+unfoldable pub mergeType : Bool → (l : ℕ) → DataType l → DataType l → Merged (DataType l)
+mergeType parked zero a b = absurd a
+mergeType parked (suc l) a b =
     choose (eqb (a .code) Null) (λ u. done b) λ u.
     choose (eqb (b .code) Null) (λ u. done a) λ u.
     choose (not (eqb (a .code) (b .code))) (λ u. clash typeClash) λ u.
-    mergeSameCode (λ x y. mergeType l x y) (isNull l) (sameType l) a b
+    mergeSameCode parked (λ x y. mergeType parked l x y) (isNull l) (sameType l) a b
 
-abbrev pub mergeColumn : Field maxLevels → Field maxLevels → Merged (Field maxLevels)
-mergeColumn f g = mergeField (mergeType maxLevels) (isNull maxLevels) f g
+abbrev pub mergeColumn : Bool → Field maxLevels → Field maxLevels → Merged (Field maxLevels)
+mergeColumn parked f g = mergeField parked (mergeType parked maxLevels) (isNull maxLevels) f g
 
 -- one turn of the loop of `Schema::try_merge`: "per sheet, its metadata by ascending key, then its columns in order"
-unfoldable pub mergeSchema : Schema → Schema → Merged Schema
-mergeSchema x y =
+unfoldable pub mergeSchema : Bool → Schema → Schema → Merged Schema
+mergeSchema parked x y =
     mergeMetadata schemaMetadataClash (x .metadata) (y .metadata) >>= λ m.
-    pour (mergeByName mergeColumn) (x .columns) (y .columns) >>= λ cs.
+    pour (mergeByName (mergeColumn parked)) (x .columns) (y .columns) >>= λ cs.
     done (record { metadata = m; columns = cs })
 
 -- `Schema::empty`
@@ -132,9 +150,9 @@ placed i (done a) = got a (suc i)
 placed i (clash n) = bad n i
 
 -- `Schema::try_merge`, from sheet i on, onto what there is
-unfoldable pub mergeFrom : ℕ → Schema → List Schema → Step Schema
-mergeFrom i x [] = got x i
-mergeFrom i x (y ∷ ys) = next (placed i (mergeSchema x y)) λ z j. mergeFrom j z ys
+unfoldable pub mergeFrom : Bool → ℕ → Schema → List Schema → Step Schema
+mergeFrom parked i x [] = got x i
+mergeFrom parked i x (y ∷ ys) = next (placed i (mergeSchema parked x y)) λ z j. mergeFrom parked j z ys
 
-unfoldable pub tryMerge : List Schema → Step Schema
-tryMerge xs = mergeFrom 0 empty xs
+unfoldable pub tryMerge : Bool → List Schema → Step Schema
+tryMerge parked xs = mergeFrom parked 0 empty xs

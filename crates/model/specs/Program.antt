@@ -1,6 +1,7 @@
 -- The program merge: "reads a train from standard input and prints one line: number, space, place, space, the answer in lower-case hex or `-`".
 use Prim.Native.Nat.{ℕ, zero, suc, _+_, _*_, _-_, _/_, _%_}
 use mathlib.Core.List.{[], _∷_, _++_}
+use mathlib.Core.Bool.{Bool}
 use lib.ListN.{length, take}
 use lib.Dec.{eqb, ltb}
 use Rattle.model.specs.Numbers.{maxProgramBytes, maxSheetBytes, workBytesPerSheetByte, accepted, inputTooLong}
@@ -46,8 +47,9 @@ hexOrMinus e = choose (eqb (e .number) accepted) (λ u. each hexByte (take (e .l
 unfoldable pub lineOf : Exit → Bytes
 lineOf e = decimal (e .number) ++ (space ∷ (decimal (e .place) ++ (space ∷ (hexOrMinus e ++ (lineFeed ∷ [])))))
 
--- The line for what was read. 35 comes first, whatever the bytes are; else the buffers are large enough for any train of that size.
-unfoldable pub programLine : Bytes → Bytes
-programLine input =
+-- The line for what was read, in a mode: the program merge has the Rust's. 35 comes first, whatever the bytes are; else the buffers are large
+-- enough for any train of that size.
+unfoldable pub programLine : Bool → Bytes → Bytes
+programLine parked input =
     choose (ltb maxProgramBytes (length input)) (λ u. lineOf (refusal inputTooLong 0 [] [])) λ u.
-    lineOf (mergeCall input (zeros (workBytesPerSheetByte * maxProgramBytes)) (zeros maxSheetBytes))
+    lineOf (mergeCall parked input (zeros (workBytesPerSheetByte * maxProgramBytes)) (zeros maxSheetBytes))

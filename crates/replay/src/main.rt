@@ -3,10 +3,12 @@
 //
 // The list is the file stdin beside src/, written by rust/compare (`compare --record FILE`). Numbers are little-endian.
 //   list:    for each operation, in the order of `call` below: u16 count, so many requests; then the byte 255
-//   request: u16 number (a count of fields, a level; else 0), u32 length of the work buffer, u32 length of the answer buffer,
-//            bytes (the sheet, the train, the ids), bytes (the other sheet, the name, list, mask, separator),
+//   request: u16 number (a count of fields, a level, the mode of a merge; else 0), u32 length of the work buffer, u32 length of the
+//            answer buffer, bytes (the sheet, the train, the ids), bytes (the other sheet, the name, list, mask, separator),
 //            u8 number and u32 place that the Rust gives, bytes (the answer; none after a refusal)
 //   bytes:   u16 count, so many pieces; piece: u16 length, so many bytes, u16 length and the byte that then comes so often
+//
+// The Rust has no mode "parked log first": there the list has what rust/oracle gives, by hand over the Rust's own pieces.
 //
 // It prints how many requests of each operation agree, then `all agree`; or the first request that does not, and nothing behind it.
 mod lent;
@@ -17,12 +19,12 @@ use list::Asked;
 use list::Told;
 
 // The operations of the list.
-const OPERATIONS: u8 = 13;
+const OPERATIONS: u8 = 14;
 
 // What stands behind the last request.
 const LAST: u8 = 255;
 
-// The call of an operation.
+// The call of an operation. A merge in each of its modes is an operation of its own.
 fn call(
     operation: u8,
     first: &[u8],
@@ -40,15 +42,16 @@ fn call(
         5 => datatype::contains(first, second, work, answer),
         6 => unions::try_new(first, number, answer),
         7 => unions::try_from_fields(number, answer),
-        8 => try_merge::merge(first, work, answer),
+        8 => try_merge::merge(first, work, answer, false),
         9 => project::project(first, second, work, answer),
         10 => project::project_strict(first, second, work, answer),
         11 => filter::filter(first, second, work, answer),
-        _ => normalize::normalize(first, second, number, work, answer),
+        12 => normalize::normalize(first, second, number, work, answer),
+        _ => try_merge::merge(first, work, answer, true),
     }
 }
 
-// Writes the operation's name, that of its export without the prefix.
+// Writes the operation's name, that of its export without the prefix, and of a merge that is parked log first its own.
 fn write_name(operation: u8) -> bool {
     match operation {
         0 => io::write_all(1, b"is_nested"),
@@ -63,7 +66,8 @@ fn write_name(operation: u8) -> bool {
         9 => io::write_all(1, b"project"),
         10 => io::write_all(1, b"project_strict"),
         11 => io::write_all(1, b"filter"),
-        _ => io::write_all(1, b"normalize"),
+        12 => io::write_all(1, b"normalize"),
+        _ => io::write_all(1, b"merge_parked_first"),
     }
 }
 

@@ -77,13 +77,13 @@ refer-small (onePlace h st r) = (h, refer-small r)
 
 -- what `skip_metadata` ensures
 abbrev SkipsMetadata : Bytes → ℕ → ℕ → ℕ → Type 0
-SkipsMetadata w place flags r = ((flags / 2 ≡ 1 → ⊥) → r ≡ place) × ((ps : List ℕ) → flags / 2 ≡ 1 → Every (λ p. p < noPlace) ps → Skips w place (placesBytes ps) r)
+SkipsMetadata w place flags r = ((flags / 4 ≡ 1 → ⊥) → r ≡ place) × ((ps : List ℕ) → flags / 4 ≡ 1 → Every (λ p. p < noPlace) ps → Skips w place (placesBytes ps) r)
 
-metadata-skips : {w s : Bytes} {place r k : ℕ} (flags : ℕ) {y : Bytes} {own m : Metadata} → SkipsMetadata w place flags r → SpellMetadata s k (eqb (flags / 2) 1) y own m → Skips w place y r
+metadata-skips : {w s : Bytes} {place r k : ℕ} (flags : ℕ) {y : Bytes} {own m : Metadata} → SkipsMetadata w place flags r → SpellMetadata s k (eqb (flags / 4) 1) y own m → Skips w place y r
 metadata-skips {w} {s} {place} {r} flags f (rawPairs o e i j) =
-    subst (λ y. Skips w place y r) (sym e) (record { behind = λ st. omega (arith, f .0 (λ h. false≢true (sym o ∙ eq-eqb (flags / 2) 1 h))) })
+    subst (λ y. Skips w place y r) (sym e) (record { behind = λ st. omega (arith, f .0 (λ h. false≢true (sym o ∙ eq-eqb (flags / 4) 1 h))) })
 metadata-skips {w} {s} {place} {r} flags f (pairPlaces o p) =
-    subst (λ y. Skips w place y r) (sym (p .bytes)) (f .1 (p .places) (eqb-true (flags / 2) 1 o) (refer-small (p .refer)))
+    subst (λ y. Skips w place y r) (sym (p .bytes)) (f .1 (p .places) (eqb-true (flags / 4) 1 o) (refer-small (p .refer)))
 
 module _ {T : Type 0} {write : T → Bytes} {G : Bool → T → Type 0} {P : T → ℕ → Bytes → T → Type 0} {w s : Bytes} {place k : ℕ} {y : Bytes} {f : FieldOver T} where
   pub head-skips : {flags m r : ℕ} → flags ≡ getD w place 0 → Ahead w place 4 m → SkipsMetadata w m flags r → (e : SpellFieldOver write G P s k y f)
@@ -165,7 +165,7 @@ pub past-entry : {w : Bytes} {place : ℕ} (levels r : ℕ) → length w ≤ pla
 past-entry levels r h l s k y f j p = record { behind = λ st. absurd (omega (arith, h, st .inside, ap length (p .bytes))) }
 
 -- an entry without metadata of its own, whose type is raw
-pub plain-entry : {w : Bytes} {place : ℕ} (levels : ℕ) → getD w place 0 < 2 → getD w (place + 4) 0 ≡ raw → place + 8 ≤ length w → SkipsEntries w place levels (place + 8)
+pub plain-entry : {w : Bytes} {place : ℕ} (levels : ℕ) → getD w place 0 < 4 → getD w (place + 4) 0 ≡ raw → place + 8 ≤ length w → SkipsEntries w place levels (place + 8)
 plain-entry {w} {place} levels h z i l s k y f j p =
     let m : SkipsMetadata w (place + 4) (getD w place 0) (place + 4) = (λ n. refl, λ ps n g. absurd (omega (arith, h, n))) in
     let next : place + 4 + 4 ≡ place + 8 = omega arith in

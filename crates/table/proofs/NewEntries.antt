@@ -3,7 +3,7 @@ use Prim.Native.Nat.{ℕ, zero, suc, _+_, _*_, _/_, _%_, _<_}
 use native.Mathlib.Omega.{arith}
 use mathlib.Core.Path.{_≡_, refl, ap, subst, _∙_}
 use mathlib.Core.List.{[], _∷_, _++_}
-use mathlib.Core.Bool.{Bool, true, false}
+use mathlib.Core.Bool.{false}
 use lib.ListN.{length, getD, length-append}
 use lib.Dec.{eqb}
 use borrow.Author.Tests.{ne-eqb}
@@ -19,10 +19,6 @@ use Rattle.table.specs.Table.{raw, u24, SpellField, SpellType, spellRaw,
 use Rattle.table.specs.Becomes.{Incoming}
 use Rattle.table.specs.Opened.{NewEntry}
 
-flag-is : (b : Bool) → eqb (flag 1 b % 256 % 2) 1 ≡ b
-flag-is true = refl
-flag-is false = refl
-
 -- the nullable bit of a field that stands in the train
 pub nullable-bit : {s : Bytes} {q map : ℕ} (l : ℕ) (g : Field l) → map ≡ getD s q 0 → Stands s q (fieldBytes (typeBytes l) g) → map % 2 ≡ flag 1 (g .head .nullable)
 unfolding headBytes
@@ -30,9 +26,16 @@ nullable-bit l g e st =
     ap (λ n. n % 2) (e ∙ byte-stands (head-stands l g st))
     ∙ walk.nullable-bit (g .head .nullable) (g .head .dictIsOrdered) (stands (g .head .name)) (stands (g .head .metadata))
 
+-- and its order bit
+pub order-bit : {s : Bytes} {q map : ℕ} (l : ℕ) (g : Field l) → map ≡ getD s q 0 → Stands s q (fieldBytes (typeBytes l) g) → map / 2 % 2 ≡ flag 1 (g .head .dictIsOrdered)
+unfolding headBytes
+order-bit l g e st =
+    ap (λ n. n / 2 % 2) (e ∙ byte-stands (head-stands l g st))
+    ∙ walk.order-bit (g .head .nullable) (g .head .dictIsOrdered) (stands (g .head .name)) (stands (g .head .metadata))
+
 module _ {s : Bytes} {q t map : ℕ} (e : map ≡ getD s q 0) (f : (h : Head) → Skips s q (headBytes h) t) where
   abbrev entry : Bytes
-  entry = map % 2 % 256 ∷ (u24 q ++ (raw ∷ u24 t))
+  entry = map % 4 % 256 ∷ (u24 q ++ (raw ∷ u24 t))
 
   pub new-entry : (l : ℕ) (g : Field l) → Incoming l s q g → SpellField l s (4 * length (fieldBytes (typeBytes l) g)) entry g
   unfolding fieldBytes headBytes
@@ -40,9 +43,8 @@ module _ {s : Bytes} {q t map : ℕ} (e : map ≡ getD s q 0) (f : (h : Head) �
       let st = i .stands in
       let n = length-append (headBytes (g .head)) (typeBytes l (g .dataType)) in
       let m = length-append (part textBytes (g .head .name)) (part (withCount pairBytes) (g .head .metadata)) in
-      let b = nullable-bit l g e st in
       record {
-        flags = map % 2 % 256;
+        flags = map % 4 % 256;
         first = q;
         own = g;
         metadataBytes = [];
@@ -55,16 +57,16 @@ module _ {s : Bytes} {q t map : ℕ} (e : map ≡ getD s q 0) (f : (h : Head) �
         stands = st;
         wellFormed = i .wellFormed;
         name = refl;
-        dictIsOrdered = refl;
+        dictIsOrdered = walk.is-one (map % 4 % 256 / 2 % 2) (g .head .dictIsOrdered) (omega (arith, order-bit l g e st));
         typeId = i .typeId;
-        nullable = ap (λ n. eqb (n % 256 % 2) 1) b ∙ flag-is (g .head .nullable);
-        metadata = rawPairs (closed (map % 2 % 256) (omega arith)) refl refl (omega arith);
+        nullable = walk.is-one (map % 4 % 256 % 2) (g .head .nullable) (omega (arith, nullable-bit l g e st));
+        metadata = rawPairs (closed (map % 4 % 256) (omega arith)) refl refl (omega arith);
         dataType = raw-type l g i;
         room = omega (arith, n, m);
       }
     where
-      closed : (n : ℕ) → n < 2 → eqb (n / 2) 1 ≡ false
-      closed n h = ne-eqb (n / 2) 1 λ z. omega (arith, h, z)
+      closed : (n : ℕ) → n < 4 → eqb (n / 4) 1 ≡ false
+      closed n h = ne-eqb (n / 4) 1 λ z. omega (arith, h, z)
 
       raw-type : (l : ℕ) (g : Field l) → Incoming l s q g → SpellType l s (g .dataType) (4 * length (typeBytes l (g .dataType))) (raw ∷ u24 t) (g .dataType)
       raw-type zero g i = absurd (g .dataType)
@@ -78,15 +80,15 @@ module _ {s : Bytes} {q t map : ℕ} (e : map ≡ getD s q 0) (f : (h : Head) �
             room = omega arith;
           }) λ z. refl
 
-eight : (f q t a b c d g h i : ℕ) → a ≡ f % 2 % 256 → b ≡ q % 256 → c ≡ q / 256 % 256 → d ≡ q / 65536 % 256 → g ≡ t % 256 → h ≡ t / 256 % 256 → i ≡ t / 65536 % 256
-    → _≡_ {A = Bytes} (a ∷ b ∷ c ∷ d ∷ 0 ∷ g ∷ h ∷ i ∷ []) (f % 2 % 256 ∷ (u24 q ++ (raw ∷ u24 t)))
+eight : (f q t a b c d g h i : ℕ) → a ≡ f % 4 % 256 → b ≡ q % 256 → c ≡ q / 256 % 256 → d ≡ q / 65536 % 256 → g ≡ t % 256 → h ≡ t / 256 % 256 → i ≡ t / 65536 % 256
+    → _≡_ {A = Bytes} (a ∷ b ∷ c ∷ d ∷ 0 ∷ g ∷ h ∷ i ∷ []) (f % 4 % 256 ∷ (u24 q ++ (raw ∷ u24 t)))
 unfolding u24
 eight f q t a b c d g h i x1 x2 x3 x4 x6 x7 x8 = cc
 
 -- its eight bytes, between x and z
 pub entry-inserted : {s : Bytes} {q t map : ℕ} → map ≡ getD s q 0 → ((h : Head) → Skips s q (headBytes h) t) → {a b c d g h i : ℕ}
-    → a ≡ map % 2 % 256 → b ≡ q % 256 → c ≡ q / 256 % 256 → d ≡ q / 65536 % 256 → g ≡ t % 256 → h ≡ t / 256 % 256 → i ≡ t / 65536 % 256
+    → a ≡ map % 4 % 256 → b ≡ q % 256 → c ≡ q / 256 % 256 → d ≡ q / 65536 % 256 → g ≡ t % 256 → h ≡ t / 256 % 256 → i ≡ t / 65536 % 256
     → (l : ℕ) (f : Field l) {w′ x z : Bytes} {used : ℕ} → Incoming l s q f → Held w′ used x (a ∷ b ∷ c ∷ d ∷ 0 ∷ g ∷ h ∷ i ∷ []) z → NewEntry l s f w′ used x z
 entry-inserted {s} {q} {t} {map} e k {a} {b} {c} {d} {g} {h} {i} x1 x2 x3 x4 x6 x7 x8 l f {w′} {x} {z} {used} n u =
     let v = eight map q t a b c d g h i x1 x2 x3 x4 x6 x7 x8 in
-    record { bytes = map % 2 % 256 ∷ (u24 q ++ (raw ∷ u24 t)); spelt = new-entry e k l f n; held = subst (λ y. Held w′ used x y z) v u }
+    record { bytes = map % 4 % 256 ∷ (u24 q ++ (raw ∷ u24 t)); spelt = new-entry e k l f n; held = subst (λ y. Held w′ used x y z) v u }

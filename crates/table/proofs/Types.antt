@@ -3,7 +3,7 @@ use Prim.Native.Nat.{ℕ, suc, _+_, _*_, _/_, _%_, _<_}
 use native.Mathlib.Omega.{arith}
 use mathlib.Core.Path.{_≡_, refl, sym, ap, subst, _∙_}
 use mathlib.Core.List.{[], _∷_, _++_, append-nil}
-use mathlib.Core.Bool.{_||_}
+use mathlib.Core.Bool.{cond, _||_}
 use lib.ListN.{getD}
 use lib.Dec.{eqb}
 use borrow.Author.Tests.{eq-eqb, ne-eqb}
@@ -44,24 +44,36 @@ four t {a} {b} {c} {w′} {x} {z} {used} e f g h = subst (λ y. Held w′ used x
 
 -- The flags of an entry
 
-module _ (flags map mine theirs : ℕ) where
-  abbrev after : ℕ
-  after = flags / 2 * 2 + flag 1 (eqb (flags % 2) 1 || eqb (map % 2) 1 || eqb mine 0 || eqb theirs 0)
+-- its order bit
+module _ (flags map mine : ℕ) where
+  abbrev pub order : ℕ
+  order = cond (eqb mine 0) (map / 2 % 2) (flags / 2 % 2)
 
-  pub flags-were : flags % 2 ≡ 1 → flags / 2 * 2 + 1 ≡ after
-  flags-were h = rw (eq-eqb (flags % 2) 1 h)
+  pub order-taken : mine ≡ 0 → (map / 2 % 2 ≡ order) × (map / 2 % 2 < 2)
+  order-taken h = (rw (eq-eqb mine 0 h), omega arith)
+
+  pub order-own : (mine ≡ 0 → ⊥) → (flags / 2 % 2 ≡ order) × (flags / 2 % 2 < 2)
+  order-own h = (rw (ne-eqb mine 0 h), omega arith)
+
+-- with its order bit, and nullable for any of four reasons
+module _ (flags map mine theirs : ℕ) {o : ℕ} (e : o ≡ order flags map mine) where
+  abbrev after : ℕ
+  after = flags / 4 * 4 + order flags map mine * 2 + flag 1 (eqb (flags % 2) 1 || eqb (map % 2) 1 || eqb mine 0 || eqb theirs 0)
+
+  pub flags-were : flags % 2 ≡ 1 → flags / 4 * 4 + o * 2 + 1 ≡ after
+  flags-were h = rw (e, eq-eqb (flags % 2) 1 h)
 
   module _ (n : flags % 2 ≡ 1 → ⊥) where
-    pub flags-come : map % 2 ≡ 1 → flags / 2 * 2 + 1 ≡ after
-    flags-come h = rw (ne-eqb (flags % 2) 1 n, eq-eqb (map % 2) 1 h)
+    pub flags-come : map % 2 ≡ 1 → flags / 4 * 4 + o * 2 + 1 ≡ after
+    flags-come h = rw (e, ne-eqb (flags % 2) 1 n, eq-eqb (map % 2) 1 h)
 
     module _ (m : map % 2 ≡ 1 → ⊥) where
-      pub flags-mine : mine ≡ 0 → flags / 2 * 2 + 1 ≡ after
-      flags-mine h = rw (ne-eqb (flags % 2) 1 n, ne-eqb (map % 2) 1 m, eq-eqb mine 0 h)
+      pub flags-mine : mine ≡ 0 → flags / 4 * 4 + o * 2 + 1 ≡ after
+      flags-mine h = rw (e, ne-eqb (flags % 2) 1 n, ne-eqb (map % 2) 1 m, eq-eqb mine 0 h)
 
       module _ (i : mine ≡ 0 → ⊥) where
-        pub flags-theirs : theirs ≡ 0 → flags / 2 * 2 + 1 ≡ after
-        flags-theirs h = rw (ne-eqb (flags % 2) 1 n, ne-eqb (map % 2) 1 m, ne-eqb mine 0 i, eq-eqb theirs 0 h)
+        pub flags-theirs : theirs ≡ 0 → flags / 4 * 4 + o * 2 + 1 ≡ after
+        flags-theirs h = rw (e, ne-eqb (flags % 2) 1 n, ne-eqb (map % 2) 1 m, ne-eqb mine 0 i, eq-eqb theirs 0 h)
 
-        pub flags-none : (theirs ≡ 0 → ⊥) → flags / 2 * 2 ≡ after
-        flags-none h = rw (ne-eqb (flags % 2) 1 n, ne-eqb (map % 2) 1 m, ne-eqb mine 0 i, ne-eqb theirs 0 h) (omega arith)
+        pub flags-none : (theirs ≡ 0 → ⊥) → flags / 4 * 4 + o * 2 ≡ after
+        flags-none h = rw (e, ne-eqb (flags % 2) 1 n, ne-eqb (map % 2) 1 m, ne-eqb mine 0 i, ne-eqb theirs 0 h) (omega arith)

@@ -28,7 +28,7 @@ three w p = getD w p 0 + 256 * getD w (p + 1) 0 + 65536 * getD w (p + 2) 0
 abbrev pub noPlace : ℕ
 noPlace = 16777215
 
--- what stands behind the last entry of a row of entries; an entry begins with its flags, which are below 4
+-- what stands behind the last entry of a row of entries; an entry begins with its flags, which are below 8
 abbrev pub noEntry : ℕ
 noEntry = 255
 
@@ -74,8 +74,8 @@ pub data SpellMetadata (s : Bytes) (k : ℕ) (opened : Bool) (y : Bytes) (own m 
   rawPairs : opened ≡ false → y ≡ [] → own ≡ m → 4 * length (part (withCount pairBytes) own) ≤ k → SpellMetadata s k opened y own m
   pairPlaces : opened ≡ true → Places s pairBytes k y m → SpellMetadata s k opened y own m
 
--- an entry: flags (bit 0 nullable, bit 1 metadata of its own), the place of the first occurrence, its metadata, its type. P spells a type,
--- given that of the first occurrence.
+-- an entry: flags (bit 0 nullable and bit 1 ordered dictionary, as in a field's map; bit 2 metadata of its own), the place of the first
+-- occurrence, its metadata, its type. P spells a type, given that of the first occurrence.
 pub record SpellFieldOver {T : Type 0} (write : T → Bytes) (G : Bool → T → Type 0) (P : T → ℕ → Bytes → T → Type 0) (s : Bytes) (k : ℕ) (y : Bytes) (f : FieldOver T) : Type 0 where
   pub flags : ℕ
   pub first : ℕ
@@ -85,15 +85,15 @@ pub record SpellFieldOver {T : Type 0} (write : T → Bytes) (G : Bool → T →
   pub metadataRoom : ℕ
   pub typeRoom : ℕ
   pub bytes : y ≡ flags ∷ (u24 first ++ (metadataBytes ++ typeSpelt))
-  pub smallFlags : flags < 4
+  pub smallFlags : flags < 8
   pub small : first < noPlace
   pub stands : Stands s first (fieldBytes write own)
   pub wellFormed : WellFormedField G own
   pub name : own .head .name ≡ f .head .name
-  pub dictIsOrdered : own .head .dictIsOrdered ≡ f .head .dictIsOrdered
+  pub dictIsOrdered : eqb (flags / 2 % 2) 1 ≡ f .head .dictIsOrdered
   pub typeId : f .head .typeId ≡ 0
   pub nullable : eqb (flags % 2) 1 ≡ f .head .nullable
-  pub metadata : SpellMetadata s metadataRoom (eqb (flags / 2) 1) metadataBytes (own .head .metadata) (f .head .metadata)
+  pub metadata : SpellMetadata s metadataRoom (eqb (flags / 4) 1) metadataBytes (own .head .metadata) (f .head .metadata)
   pub dataType : P (own .dataType) typeRoom typeSpelt (f .dataType)
   pub room : 4 + metadataRoom + typeRoom ≤ k
 

@@ -7,7 +7,7 @@ ghost use mathlib.Core.Path.{_≡_};
 ghost use mathlib.Core.List.{List, [], _∷_, _++_};
 ghost use Prim.Native.Nat.{ℕ, suc, _+_, _*_, _/_, _%_, _≤_, _<_};
 ghost use lib.ListN.{length, take, drop, getD};
-ghost use mathlib.Core.Bool.{false, _||_};
+ghost use mathlib.Core.Bool.{false, cond, _||_};
 ghost use lib.Dec.{eqb};
 ghost use Rattle.model.specs.Bytes.{Bytes, Every, sameBytes, flag};
 ghost use Rattle.model.specs.Tree.{Head, DataType, Field};
@@ -62,9 +62,9 @@ pub fn skip_places(w: &[u8], at: usize) -> usize
 
 // The places of the pairs of an entry's metadata, if it has metadata of its own.
 fn skip_metadata(w: &[u8], at: usize, flags: usize) -> usize
-    ensures { λ r. ⌜ ((flags / 2 ≡ 1 → ⊥) → r ≡ at) × ((ps : List ℕ) → flags / 2 ≡ 1 → Every (λ p. p < noPlace) ps → Skips (now (w .entry)) at (placesBytes ps) r) ⌝ }
+    ensures { λ r. ⌜ ((flags / 4 ≡ 1 → ⊥) → r ≡ at) × ((ps : List ℕ) → flags / 4 ≡ 1 → Every (λ p. p < noPlace) ps → Skips (now (w .entry)) at (placesBytes ps) r) ⌝ }
 {
-    if flags / 2 == 1 {
+    if flags / 4 == 1 {
         return skip_places(w, at);
     }
     at
@@ -135,7 +135,7 @@ pub fn next_entry(w: &[u8], at: usize, levels: usize) -> usize
     if w.len() - at < 8 {
         return skip_entry(w, at, levels);
     }
-    if 2 <= w[at] {
+    if 4 <= w[at] {
         return skip_entry(w, at, levels);
     }
     if w[at + 4] != 0 {
@@ -243,13 +243,13 @@ fn low(n: usize) -> u8
     (n % 256) as u8
 }
 
-// The entry of a field of the train that nothing was merged into yet: nullable or not, its place, and its type's.
+// The entry of a field of the train that nothing was merged into yet: nullable and ordered or not, its place, and its type's.
 pub fn insert_entry(s: &[u8], w: &mut [u8], used: usize, at: usize, q: usize) -> usize
     ensures { λ r. ⌜ (length (now (w .exit)) ≡ length (now (w .entry))) × ((l : ℕ) (g : Field l) (x z : Bytes) → Incoming l (now (s .entry)) q g → Held (now (w .entry)) used x [] z → at ≡ length x → used + 8 ≤ length (now (w .entry)) → NewEntry l (now (s .entry)) g (now (w .exit)) r x z) ⌝ }
 {
     let t = walk::skip_head(s, q);
     let entry = [
-        low(walk::byte(s, q) % 2),
+        low(walk::byte(s, q) % 4),
         low(q),
         low(q / 256),
         low(q / 65536),
@@ -276,11 +276,23 @@ pub fn take_type(w: &mut [u8], used: usize, at: usize, t: usize)
     overwrite(w, used, at, &entry);
 }
 
-// The flags of an entry, nullable if it was, or if any of these is so: the incoming field is nullable, either type is Null.
-pub fn flags_of(flags: usize, map: usize, mine: usize, theirs: usize) -> usize
-    ensures { λ r. ⌜ r ≡ flags / 2 * 2 + flag 1 (eqb (flags % 2) 1 || eqb (map % 2) 1 || eqb mine 0 || eqb theirs 0) ⌝ }
+// The order bit of an entry whose type has this code and that a field is merged into: its own, but "a Null column that takes a type takes
+// its order flag too". As the Rust merges, the two bits are equal there.
+fn order_of(flags: usize, map: usize, code: usize) -> usize
+    ensures { λ r. ⌜ (r ≡ cond (eqb code 0) (map / 2 % 2) (flags / 2 % 2)) × (r < 2) ⌝ }
 {
-    let rest = flags / 2 * 2;
+    if code == 0 {
+        return map / 2 % 2;
+    }
+    flags / 2 % 2
+}
+
+// The flags of an entry that a field is merged into: its order bit; nullable if it was, or if any of these is so: the incoming field is
+// nullable, either type is Null.
+pub fn flags_of(flags: usize, map: usize, mine: usize, theirs: usize) -> usize
+    ensures { λ r. ⌜ r ≡ flags / 4 * 4 + cond (eqb mine 0) (map / 2 % 2) (flags / 2 % 2) * 2 + flag 1 (eqb (flags % 2) 1 || eqb (map % 2) 1 || eqb mine 0 || eqb theirs 0) ⌝ }
+{
+    let rest = flags / 4 * 4 + order_of(flags, map, mine) * 2;
     if flags % 2 == 1 {
         return rest + 1;
     }

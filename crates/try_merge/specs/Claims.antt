@@ -2,6 +2,7 @@
 use Prim.Native.Nat.{ℕ, _+_, _*_, _≤_, _<_}
 use mathlib.Core.Path.{_≡_}
 use mathlib.Core.List.{List, [], _∷_, _++_}
+use mathlib.Core.Bool.{Bool}
 use lib.ListN.{length}
 use Rattle.model.specs.Numbers.{maxSheets, workBytesPerSheetByte}
 use Rattle.model.specs.Bytes.{Bytes, Every}
@@ -31,10 +32,10 @@ abbrev pub added : Schema → ℕ
 added y = 4 * length (each pairBytes (y .metadata)) + 4 * length (each columnBytes (y .columns))
 
 -- one sheet
-pub record MergesSheet (s w : Bytes) (used q : ℕ) (w′ : Bytes) (r : Merged) : Type 0 where
+pub record MergesSheet (parked : Bool) (s w : Bytes) (used q : ℕ) (w′ : Bytes) (r : Merged) : Type 0 where
   pub sameLength : length w′ ≡ length w
   pub says : (y : Schema) → Stands s q (sheetBytes y) → WellFormedSchema y → length s < noPlace
-      → Becomes (SpellSchema s) (SpellSchema s) w used 0 (added y) w′ r λ x. mergeSchema x y
+      → Becomes (SpellSchema s) (SpellSchema s) w used 0 (added y) w′ r λ x. mergeSchema parked x y
 
 -- the table spells a schema, from its first byte on
 pub record Spelt (s w : Bytes) (x : Schema) : Type 0 where
@@ -44,7 +45,7 @@ pub record Spelt (s w : Bytes) (x : Schema) : Type 0 where
   pub stands : Stands w 0 spelt
 
 -- all sheets of a train
-pub record MergesSheets (s w w′ : Bytes) (r : Step) : Type 0 where
+pub record MergesSheets (parked : Bool) (s w w′ : Bytes) (r : Step) : Type 0 where
   pub sameLength : length w′ ≡ length w
   pub merges : (xs : List Schema) → s ≡ each sheetBytes xs → Every Fits xs → length xs ≤ maxSheets → 1 ≤ length s → workBytesPerSheetByte * length s ≤ length w
-      → (r ≡ stepOf (tryMerge xs)) × ((x : Schema) (n : ℕ) → tryMerge xs ≡ got x n → Spelt s w′ x)
+      → (r ≡ stepOf (tryMerge parked xs)) × ((x : Schema) (n : ℕ) → tryMerge parked xs ≡ got x n → Spelt s w′ x)

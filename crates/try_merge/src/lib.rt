@@ -34,8 +34,8 @@ fn begin_table(w: &mut [u8])
 }
 
 // One sheet of the train into the table: "per sheet, its metadata by ascending key, then its columns in order".
-fn merge_sheet(s: &[u8], w: &mut [u8], used: usize, q: usize) -> Merged
-    ensures { λ r. ⌜ MergesSheet (now (s .entry)) (now (w .entry)) used q (now (w .exit)) r ⌝ }
+fn merge_sheet(s: &[u8], w: &mut [u8], used: usize, q: usize, parked: bool) -> Merged
+    ensures { λ r. ⌜ MergesSheet parked (now (s .entry)) (now (w .entry)) used q (now (w .exit)) r ⌝ }
 {
     let pairs = of_sheet(s, q);
     let first = pairs.at;
@@ -46,13 +46,22 @@ fn merge_sheet(s: &[u8], w: &mut [u8], used: usize, q: usize) -> Merged
     };
     let row = table::skip_places(&w[..], 0);
     let columns = walk::find_columns(s, q);
-    field::pour(s, w, kept, row, columns.at, columns.count, Cursor::LEVELS)
+    field::pour(
+        s,
+        w,
+        kept,
+        row,
+        columns.at,
+        columns.count,
+        Cursor::LEVELS,
+        parked,
+    )
 }
 
 // The sheets of a train, one after the other, into the table of the empty schema. It gives the number of sheets, or the clash with the sheet
 // for a place. A train has at most 256 sheets.
-fn merge_sheets(s: &[u8], w: &mut [u8]) -> Step
-    ensures { λ r. ⌜ MergesSheets (now (s .entry)) (now (w .entry)) (now (w .exit)) r ⌝ }
+fn merge_sheets(s: &[u8], w: &mut [u8], parked: bool) -> Step
+    ensures { λ r. ⌜ MergesSheets parked (now (s .entry)) (now (w .entry)) (now (w .exit)) r ⌝ }
 {
     begin_table(w);
     let mut used = EMPTY.len();
@@ -62,7 +71,7 @@ fn merge_sheets(s: &[u8], w: &mut [u8]) -> Step
         if s.len() <= place {
             return Step::Next(sheet);
         }
-        let merged = merge_sheet(s, w, used, place);
+        let merged = merge_sheet(s, w, used, place, parked);
         match merged {
             Merged::Clash(number) => return Step::Refused(number, sheet),
             Merged::Used(end) => used = end,
@@ -75,10 +84,10 @@ fn merge_sheets(s: &[u8], w: &mut [u8]) -> Step
 
 // The answer of a call on a train of at least one sheet: the clash, 30, 31, or the merged sheet. It is put twice: for its length, then into
 // the answer buffer.
-fn answer_merged(train: &[u8], work: &mut [u8], answer: &mut [u8]) -> Outcome
-    ensures { λ r. ⌜ ((xs : List Schema) → now (train .entry) ≡ each sheetBytes xs → Every Fits xs → length xs ≤ maxSheets → 1 ≤ length (now (train .entry)) → workBytesPerSheetByte * length (now (train .entry)) ≤ length (now (work .entry)) → leaves r (now (answer .exit)) (now (work .exit)) ≡ settled (sheetAnswer (tryMerge xs)) (zeros (length (now (work .entry)))) (now (answer .entry))) ⌝ }
+fn answer_merged(train: &[u8], work: &mut [u8], answer: &mut [u8], parked: bool) -> Outcome
+    ensures { λ r. ⌜ ((xs : List Schema) → now (train .entry) ≡ each sheetBytes xs → Every Fits xs → length xs ≤ maxSheets → 1 ≤ length (now (train .entry)) → workBytesPerSheetByte * length (now (train .entry)) ≤ length (now (work .entry)) → leaves r (now (answer .exit)) (now (work .exit)) ≡ settled (sheetAnswer (tryMerge parked xs)) (zeros (length (now (work .entry)))) (now (answer .entry))) ⌝ }
 {
-    let merged = merge_sheets(train, work);
+    let merged = merge_sheets(train, work, parked);
     if let Step::Refused(number, sheet) = merged {
         return buffer::refuse(work, number, sheet);
     }
@@ -94,24 +103,24 @@ fn answer_merged(train: &[u8], work: &mut [u8], answer: &mut [u8]) -> Outcome
 }
 
 // A train that was read. "For an empty train the byte 00", for which there need not be room in the work buffer.
-fn merge_read(train: &[u8], work: &mut [u8], answer: &mut [u8]) -> Outcome
-    ensures { λ r. ⌜ ((xs : List Schema) → now (train .entry) ≡ each sheetBytes xs → Every Fits xs → length xs ≤ maxSheets → workBytesPerSheetByte * length (now (train .entry)) ≤ length (now (work .entry)) → leaves r (now (answer .exit)) (now (work .exit)) ≡ settled (sheetAnswer (tryMerge xs)) (zeros (length (now (work .entry)))) (now (answer .entry))) ⌝ }
+fn merge_read(train: &[u8], work: &mut [u8], answer: &mut [u8], parked: bool) -> Outcome
+    ensures { λ r. ⌜ ((xs : List Schema) → now (train .entry) ≡ each sheetBytes xs → Every Fits xs → length xs ≤ maxSheets → workBytesPerSheetByte * length (now (train .entry)) ≤ length (now (work .entry)) → leaves r (now (answer .exit)) (now (work .exit)) ≡ settled (sheetAnswer (tryMerge parked xs)) (zeros (length (now (work .entry)))) (now (answer .entry))) ⌝ }
 {
     if train.len() == 0 {
         return buffer::accept_byte(work, answer, 0);
     }
-    answer_merged(train, work, answer)
+    answer_merged(train, work, answer, parked)
 }
 
-// `Schema::try_merge`.
-pub fn merge(train: &[u8], work: &mut [u8], answer: &mut [u8]) -> Outcome
-    ensures { λ r. ⌜ leaves r (now (answer .exit)) (now (work .exit)) ≡ mergeCall (now (train .entry)) (now (work .entry)) (now (answer .entry)) ⌝ }
+// `Schema::try_merge`; or, parked log first, the mode of document 02, Item 6.
+pub fn merge(train: &[u8], work: &mut [u8], answer: &mut [u8], parked: bool) -> Outcome
+    ensures { λ r. ⌜ leaves r (now (answer .exit)) (now (work .exit)) ≡ mergeCall parked (now (train .entry)) (now (work .entry)) (now (answer .entry)) ⌝ }
 {
     if buffer::lacks_room(work.len(), train.len()) {
         return Outcome::refused(Outcome::WORK_BUFFER_SHORT, 0);
     }
     match sheet::read_train(train) {
         Step::Refused(number, place) => buffer::refuse(work, number, place),
-        Step::Next(_) => merge_read(train, work, answer),
+        Step::Next(_) => merge_read(train, work, answer, parked),
     }
 }

@@ -59,7 +59,7 @@ pub flag-one : (n : ℕ) (b : Bool) → (flag n b ≡ n * flag 1 b) × (flag 1 b
 flag-one n true = (omega arith, omega arith)
 flag-one n false = (omega arith, omega arith)
 
-is-one : (n : ℕ) (b : Bool) → n ≡ flag 1 b → eqb n 1 ≡ b
+pub is-one : (n : ℕ) (b : Bool) → n ≡ flag 1 b → eqb n 1 ≡ b
 is-one n true e = ap (λ x. eqb x 1) e
 is-one n false e = ap (λ x. eqb x 1) e
 
@@ -70,6 +70,10 @@ module _ (a b c d : Bool) where
   -- the nullable bit, as a number
   pub nullable-bit : (flag 1 a + flag 2 b + flag 4 c + flag 8 d) % 2 ≡ flag 1 a
   nullable-bit = omega (arith, flag-one 1 a, flag-one 2 b, flag-one 4 c, flag-one 8 d)
+
+  -- the order bit, as a number
+  pub order-bit : (flag 1 a + flag 2 b + flag 4 c + flag 8 d) / 2 % 2 ≡ flag 1 b
+  order-bit = omega (arith, flag-one 1 a, flag-one 2 b, flag-one 4 c, flag-one 8 d)
 
   pub metadata-bit : eqb ((flag 1 a + flag 2 b + flag 4 c + flag 8 d) / 8 % 2) 1 ≡ d
   metadata-bit = is-one ((flag 1 a + flag 2 b + flag 4 c + flag 8 d) / 8 % 2) d (omega (arith, flag-one 1 a, flag-one 2 b, flag-one 4 c, flag-one 8 d))

@@ -1,9 +1,10 @@
-// Runs what document 01's bench trials say of the calls that write a sheet: the merge (merging.rt); P9 (normalising), P10 (projection),
+// Runs what the bench trials say of the calls that write a sheet: the merge (merging.rt); P9 (normalising), P10 (projection),
 // index 0 of no columns, P11 (the leaf filter: one leaf).
 mod merging;
 mod showing;
 
 use merging::merges;
+use merging::parked_merges;
 use showing::show;
 
 fn normalize(what: &[u8], sheet: &[u8], level: u16) {
@@ -36,6 +37,7 @@ fn filter(what: &[u8], sheet: &[u8], mask: &[u8]) {
 
 fn main() {
     merges();
+    parked_merges();
     // s:Struct{a:Int32, e:Struct{}}
     let s = b"\x02\x01\x00\x04\x01\x00s\x20\x02\x00\x04\x01\x00a\x04\x04\x01\x00e\x20\x00\x00";
     normalize(b"P9 level 0", s, 0);

@@ -2,8 +2,9 @@
 
 use crate::timing::{Timed, again, medians, on_new};
 use arrow_schema::Schema;
-use oracle::operations::Outcome;
+use oracle::operations::{self, Outcome};
 use oracle::read;
+use sheets::Mode;
 use sheets::lent::Exit;
 use std::rc::Rc;
 
@@ -28,6 +29,8 @@ pub(crate) struct Case {
     pub(crate) whole: Box<dyn Fn() -> Outcome>,
     /// The Rust's operation alone; none where the case is the reading itself.
     pub(crate) alone: Option<Timed<'static>>,
+    /// What the port must give, where that is not what the Rust's whole job beside it gives.
+    pub(crate) expected: Option<Outcome>,
 }
 
 /// The median of a run, in seconds.
@@ -62,6 +65,7 @@ impl Case {
             port: Some(Box::new(move |work, answer| port(&one, work, answer))),
             whole: Box::new(move || whole(&other)),
             alone: Some(again(move || alone(&read))),
+            expected: None,
         }
     }
 
@@ -81,10 +85,12 @@ impl Case {
             port: Some(Box::new(move |work, answer| port(&one, &one, work, answer))),
             whole: Box::new(move || whole(&other, &other)),
             alone: Some(again(move || alone(&first, &second))),
+            expected: None,
         }
     }
 
-    /// A case of a train. The Rust's merge takes its schemas, so each run has new ones.
+    /// A case of a train, in the Rust's mode. The Rust's merge takes its schemas, so each run
+    /// has new ones.
     pub(crate) fn of_train(title: &str, train: Vec<u8>) -> Self {
         let train: Rc<[u8]> = train.into();
         let [one, other, third] = [(); 3].map(|()| Rc::clone(&train));
@@ -95,9 +101,22 @@ impl Case {
         Self {
             title: title.to_owned(),
             bytes: train.len(),
-            port: merging(one),
-            whole: Box::new(move || oracle::operations::merge(&other)),
+            port: merging(one, Mode::AsTheRust),
+            whole: Box::new(move || operations::merge(&other, operations::Mode::AsTheRust)),
             alone: Some(on_new(schemas, Schema::try_merge)),
+            expected: None,
+        }
+    }
+
+    /// A case of a train that is merged parked log first, which the Rust cannot: beside it the
+    /// Rust merges a train of its own, as long as the other, in its own mode.
+    pub(crate) fn of_parked(title: &str, train: Vec<u8>, beside: Vec<u8>) -> Self {
+        assert_eq!(train.len(), beside.len());
+        let expected = operations::merge(&train, operations::Mode::ParkedFirst);
+        Self {
+            port: merging(train.into(), Mode::ParkedFirst),
+            expected: Some(expected),
+            ..Self::of_train(title, beside)
         }
     }
 
@@ -106,9 +125,11 @@ impl Case {
         [vec![170; 4 * self.bytes], vec![170; ANSWER_BYTES]]
     }
 
-    /// Whether both sides accept, with the same answer.
+    /// Whether both sides accept, and the port gives what it must.
     pub(crate) fn agrees(&self) -> bool {
-        let Ok(expected) = (self.whole)() else {
+        let beside = (self.whole)();
+        let expected = self.expected.as_ref().unwrap_or(&beside);
+        let (Ok(_), Ok(expected)) = (&beside, expected) else {
             return false;
         };
         let Some(port) = &self.port else {
@@ -116,7 +137,7 @@ impl Case {
         };
         let [mut work, mut answer] = self.buffers();
         let exit = port(&mut work, &mut answer);
-        exit.number == 0 && answer[..exit.length] == expected
+        exit.number == 0 && answer[..exit.length] == expected[..]
     }
 
     /// Times all sides.
@@ -137,15 +158,15 @@ impl Case {
     }
 }
 
-/// The port's merge of this train, if this build links it.
-fn merging(train: Rc<[u8]>) -> Option<Port> {
+/// The port's merge of this train in this mode, if this build links it.
+fn merging(train: Rc<[u8]>, mode: Mode) -> Option<Port> {
     #[cfg(feature = "linked")]
     return Some(Box::new(move |work, answer| {
-        sheets::lent::merge(&train, work, answer)
+        sheets::lent::merge(&train, work, answer, mode.into())
     }));
     #[cfg(not(feature = "linked"))]
     {
-        drop(train);
+        drop((train, mode));
         None
     }
 }

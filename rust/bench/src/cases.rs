@@ -174,6 +174,7 @@ pub(crate) fn numberings() -> [Case; 2] {
             alone: Some(on_new(fields, move |fields| {
                 UnionFields::try_new(ids.map(u8::cast_signed), fields)
             })),
+            expected: None,
         },
         Case {
             title: "`try_from_fields`, 128 fields".to_owned(),
@@ -181,13 +182,15 @@ pub(crate) fn numberings() -> [Case; 2] {
             port: Some(Box::new(|_, answer| lent::try_from_fields(128, answer))),
             whole: Box::new(|| operations::try_from_fields(128)),
             alone: Some(on_new(fields, UnionFields::try_from_fields::<Vec<Field>>)),
+            expected: None,
         },
     ]
 }
 
 /// Merges of logs as the desk has them.
-pub(crate) fn merges() -> [Case; 5] {
-    [
+pub(crate) fn merges() -> Vec<Case> {
+    let dictionaries = |ordered| inputs::parked_dictionaries(1000, ordered);
+    let as_the_rust = [
         (
             "2 x 1000 columns, the same order",
             inputs::twice(1000, Order::Same),
@@ -202,8 +205,22 @@ pub(crate) fn merges() -> [Case; 5] {
             inputs::train(256, 100, 1),
         ),
         ("1000 Nulls, then their types", inputs::parked(1000)),
+        ("1000 Nulls, then dictionaries", dictionaries(false)),
     ]
-    .map(|(title, train)| Case::of_train(title, train))
+    .map(|(title, train)| Case::of_train(title, train));
+    let parked_first = [
+        Case::of_parked(
+            "1000 Nulls, then their types, parked log first",
+            inputs::parked(1000),
+            inputs::parked(1000),
+        ),
+        Case::of_parked(
+            "1000 Nulls, then ordered dictionaries, parked log first",
+            dictionaries(true),
+            dictionaries(false),
+        ),
+    ];
+    as_the_rust.into_iter().chain(parked_first).collect()
 }
 
 /// The merge of two sheets of so many columns.
@@ -223,7 +240,7 @@ mod tests {
         cases.extend(numberings());
         cases.extend(merges());
         cases.extend(Order::BOTH.map(|order| growth(GROWTH[0], order)));
-        assert_eq!(cases.len(), 3 * 12 + 2 + 5 + 2);
+        assert_eq!(cases.len(), 3 * 12 + 2 + 8 + 2);
         for case in cases {
             assert!(case.agrees(), "{}, {} bytes", case.title, case.bytes);
         }

@@ -124,16 +124,31 @@ pub(crate) fn train(sheets: usize, count: usize, new: usize) -> Vec<u8> {
     (0..sheets).flat_map(one).collect()
 }
 
+/// A sheet whose columns are all Null.
+fn nulls(count: usize) -> Vec<u8> {
+    let null = |number| Field::new(name(number), DataType::Null, false);
+    sheet((0..count).map(null).collect())
+}
+
 /// A sheet whose columns are all Null, then one that has their types.
 pub(crate) fn parked(count: usize) -> Vec<u8> {
-    let null = |number| Field::new(name(number), DataType::Null, false);
-    [sheet((0..count).map(null).collect()), flat(count)].concat()
+    [nulls(count), flat(count)].concat()
+}
+
+/// The same with dictionaries as types, ordered or not.
+pub(crate) fn parked_dictionaries(count: usize, ordered: bool) -> Vec<u8> {
+    let dictionary = |number| {
+        let data_type = DataType::Dictionary(Box::new(DataType::Int8), Box::new(DataType::Utf8));
+        Field::new(name(number), data_type, false).with_dict_is_ordered(ordered)
+    };
+    [nulls(count), sheet((0..count).map(dictionary).collect())].concat()
 }
 
 #[cfg(test)]
 mod tests {
     use super::*;
-    use oracle::{operations, read};
+    use oracle::operations::{self, Mode};
+    use oracle::read;
 
     fn counts(train: &[u8]) -> Vec<usize> {
         let sheets = read::train(train).unwrap();
@@ -144,7 +159,7 @@ mod tests {
     }
 
     fn merged(train: &[u8]) -> usize {
-        counts(&operations::merge(train).unwrap())[0]
+        counts(&operations::merge(train, Mode::AsTheRust).unwrap())[0]
     }
 
     #[test]
@@ -180,10 +195,23 @@ mod tests {
         assert_eq!(merged(&train(256, 100, 0)), 100);
         assert_eq!(counts(&train(256, 100, 1)), [101; 256]);
         assert_eq!(merged(&train(256, 100, 1)), 356);
-        assert_eq!(operations::merge(&parked(10)), {
-            let nullable = |number| Field::new(name(number), plain(number), true);
-            Ok(sheet((0..10).map(nullable).collect()))
-        });
+    }
+
+    #[test]
+    fn the_parked_logs_give_the_types_that_follow() {
+        let nullable = |number| Field::new(name(number), plain(number), true);
+        let table = sheet((0..10).map(nullable).collect());
+        for mode in [Mode::AsTheRust, Mode::ParkedFirst] {
+            assert_eq!(operations::merge(&parked(10), mode), Ok(table.clone()));
+        }
+        assert_eq!(merged(&parked_dictionaries(10, false)), 10);
+        let ordered = parked_dictionaries(10, true);
+        let refusal = operations::merge(&ordered, Mode::AsTheRust).unwrap_err();
+        assert_eq!((refusal.number, refusal.place), (20, 1));
+        let table = operations::merge(&ordered, Mode::ParkedFirst).unwrap();
+        let columns = read::sheet(&table).unwrap().schema;
+        let mut columns = columns.fields().iter();
+        assert!(columns.all(|column| column.dict_is_ordered() == Some(true)));
     }
 
     #[test]

@@ -20,7 +20,12 @@ Both sides were timed in one run of a release build, on the same bytes. Times ar
 
 The crate has no reader or writer of sheets; the oracle's are plain, and *alone / port* puts the Rust's bare operation
 beside the port's reading, operation and writing together. For `flattened_fields` the oracle looks up the offset of
-each field, and for `filter` it counts the leaves first; both are in *Rust*.";
+each field, and for `filter` it counts the leaves first; both are in *Rust*.
+
+The Rust has no mode \"parked log first\". In the rows of that mode the port merges in it, and what stands beside it is
+the Rust's own merge: of the same bytes where the Rust accepts them, and, where it refuses ordered dictionaries, of the
+same bytes with the order flags cleared. What the port gives there is first compared with what the oracle gives in
+the mode.";
 
 const NUMBERS: [&str; 6] = [
     "sheet bytes",

@@ -1,10 +1,11 @@
 //! The bench: one request on both sides, and every byte of what they leave.
 
-use crate::request::Request;
+use crate::request::{Operation, Request};
 use crate::side::Side;
 use crate::tally::Tally;
 use oracle::call::{Exit, on_sheets, without_sheets};
-use oracle::operations::Outcome;
+use oracle::number::CLASH_ORDERED;
+use oracle::operations::{self, Mode, Outcome};
 use std::fmt;
 
 /// A work buffer and an answer buffer.
@@ -24,16 +25,26 @@ pub(crate) struct Bench {
     pub(crate) tally: Tally,
 }
 
-/// Two sides that left something else.
+/// What went wrong at a request.
 #[derive(Debug)]
 pub(crate) struct Difference {
     request: Request,
-    expected: Exit,
-    found: Exit,
-    /// The first answer byte that differs: place, expected, found.
-    answer: Option<(usize, u8, u8)>,
-    /// The first work byte that differs: place, expected, found.
-    work: Option<(usize, u8, u8)>,
+    wrong: Wrong,
+}
+
+#[derive(Debug)]
+enum Wrong {
+    /// The two sides left something else.
+    Sides {
+        expected: Exit,
+        found: Exit,
+        /// The first answer byte that differs: place, expected, found.
+        answer: Option<(usize, u8, u8)>,
+        /// The first work byte that differs: place, expected, found.
+        work: Option<(usize, u8, u8)>,
+    },
+    /// The oracle's merge in the mode parked log first is not what the Rust's own lets it be.
+    Mode { rust: Outcome, parked: Outcome },
 }
 
 impl Bench {
@@ -49,12 +60,14 @@ impl Bench {
     }
 
     /// Runs the request on both sides with the same buffers at entry. `outcome` is what the
-    /// oracle's operation gives on it.
+    /// oracle's operation gives on it; where part of that is by hand, it is first held to the
+    /// Rust.
     pub(crate) fn run(
         &mut self,
         request: &Request,
         outcome: Outcome,
     ) -> Result<(), Box<Difference>> {
+        held_to_the_rust(request, &outcome)?;
         self.patterns.reach(request.work, request.answer);
         self.expected.lend(request, &self.patterns);
         self.found.lend(request, &self.patterns);
@@ -72,12 +85,34 @@ impl Bench {
         }
         Err(Box::new(Difference {
             request: request.clone(),
-            expected,
-            found,
-            answer: first_difference(&self.expected.answer, &self.found.answer),
-            work: first_difference(&self.expected.work, &self.found.work),
+            wrong: Wrong::Sides {
+                expected,
+                found,
+                answer: first_difference(&self.expected.answer, &self.found.answer),
+                work: first_difference(&self.expected.work, &self.found.work),
+            },
         }))
     }
+}
+
+/// The Rust has no mode parked log first, so the oracle's is held to what the Rust gives in
+/// its own: the same, bytes or refusal, unless that is 20.
+fn held_to_the_rust(request: &Request, parked: &Outcome) -> Result<(), Box<Difference>> {
+    if request.operation != Operation::MergeParkedFirst {
+        return Ok(());
+    }
+    let rust = operations::merge(&request.first, Mode::AsTheRust);
+    let ordered = matches!(&rust, Err(refusal) if refusal.number == CLASH_ORDERED);
+    if ordered || rust == *parked {
+        return Ok(());
+    }
+    Err(Box::new(Difference {
+        request: request.clone(),
+        wrong: Wrong::Mode {
+            rust,
+            parked: parked.clone(),
+        },
+    }))
 }
 
 impl Buffers {
@@ -141,24 +176,53 @@ impl fmt::Display for Difference {
             f,
             "work buffer: {work} bytes; answer buffer: {answer} bytes"
         )?;
-        for (name, exit) in [("expected", self.expected), ("found", self.found)] {
-            let (number, place, length) = (exit.number, exit.place, exit.length);
-            writeln!(f, "{name}: number {number}, place {place}, length {length}")?;
-        }
-        for (name, byte) in [("answer", self.answer), ("work", self.work)] {
-            if let Some((place, expected, found)) = byte {
-                let differs = format!("byte {place} is {found:02x}, expected {expected:02x}");
-                writeln!(f, "{name} buffer: {differs}")?;
+        self.wrong.fmt(f)
+    }
+}
+
+impl fmt::Display for Wrong {
+    fn fmt(&self, f: &mut fmt::Formatter<'_>) -> fmt::Result {
+        match self {
+            Self::Sides {
+                expected,
+                found,
+                answer,
+                work,
+            } => {
+                for (name, exit) in [("expected", expected), ("found", found)] {
+                    let (number, place, length) = (exit.number, exit.place, exit.length);
+                    writeln!(f, "{name}: number {number}, place {place}, length {length}")?;
+                }
+                for (name, byte) in [("answer", answer), ("work", work)] {
+                    if let Some((place, expected, found)) = byte {
+                        let differs =
+                            format!("byte {place} is {found:02x}, expected {expected:02x}");
+                        writeln!(f, "{name} buffer: {differs}")?;
+                    }
+                }
+                Ok(())
+            }
+            Self::Mode { rust, parked } => {
+                writeln!(f, "the Rust's mode: {}", said(rust))?;
+                writeln!(f, "the oracle's parked log first: {}", said(parked))?;
+                writeln!(f, "they must be the same, unless the Rust's is 20")
             }
         }
-        Ok(())
+    }
+}
+
+/// An outcome in words.
+fn said(outcome: &Outcome) -> String {
+    match outcome {
+        Ok(answer) => format!("{} bytes: {}", answer.len(), hex(answer)),
+        Err(refusal) => format!("number {}, place {}", refusal.number, refusal.place),
     }
 }
 
 #[cfg(test)]
 mod tests {
     use super::*;
-    use crate::request::Operation;
+    use oracle::Refusal;
 
     /// A side that answers right and then changes what it is told to.
     struct Changed(fn(&mut Exit, &mut [u8], &mut [u8]));
@@ -211,6 +275,46 @@ mod tests {
             "found: number 0, place 7, length 1",
         ];
         assert_eq!(told.lines().collect::<Vec<_>>(), lines);
+    }
+
+    /// What a bench says of a train whose merge, parked log first, would give this.
+    fn held(train: &str, outcome: Outcome) -> Option<String> {
+        let train = train.split(' ').map(|byte| u8::from_str_radix(byte, 16));
+        let train = train.collect::<Result<Vec<u8>, _>>().expect("bytes");
+        let mut request = Request::new(Operation::MergeParkedFirst, train);
+        request.work = 4 * request.first.len();
+        let difference = held_to_the_rust(&request, &outcome).err();
+        let run = Bench::new(Box::new(crate::side::Oracle)).run(&request, outcome);
+        assert!(difference.is_none() || run.is_err());
+        difference.map(|difference| difference.to_string())
+    }
+
+    #[test]
+    fn the_mode_that_is_by_hand_is_held_to_the_rust() {
+        let p3 = "02 01 00 04 01 00 76 00 02 01 00 04 01 00 76 04";
+        let table = vec![2, 1, 0, 5, 1, 0, b'v', 4];
+        assert_eq!(held(p3, Ok(table)), None);
+        // where the Rust accepts, nothing but its bytes is let through
+        for wrong in [Ok(vec![0]), Err(Refusal::new(20, 1))] {
+            let told = held(p3, wrong).expect("a difference");
+            let lines: Vec<&str> = told.lines().collect();
+            assert_eq!(lines[2], "mode: 1");
+            assert_eq!(lines[4], "the Rust's mode: 8 bytes: 0201000501007604");
+            assert_eq!(lines.len(), 7, "{told}");
+        }
+        // a refusal stays as it is, but for 20
+        let types = "02 01 00 04 01 00 76 02 02 01 00 04 01 00 76 03";
+        assert_eq!(held(types, Err(Refusal::new(22, 1))), None);
+        assert!(held(types, Err(Refusal::new(22, 0))).is_some());
+        assert!(held(types, Ok(vec![0])).is_some());
+        let p5 = "02 01 00 04 01 00 76 00 02 01 00 06 01 00 76 22 02 18";
+        for any in [
+            Ok(vec![0]),
+            Err(Refusal::new(20, 1)),
+            Err(Refusal::new(21, 1)),
+        ] {
+            assert_eq!(held(p5, any), None);
+        }
     }
 
     #[test]

@@ -2,8 +2,9 @@
 //! compares number, place, length, and every byte of both buffers at exit.
 //!
 //! First the fixed list, then all that is short, then COUNT random requests for each
-//! operation, with fixed seeds. The operations are those that the library has, or with
-//! `--oracle` all of them. It prints how often each number came up at each operation.
+//! operation, with fixed seeds. A merge that is parked log first, which the oracle does by hand
+//! in part, is held to the Rust's own merge too. It prints how often each number came up at
+//! each operation.
 //! Status 0 and the last line `compare: N requests, no difference` where both sides agree;
 //! status 1 and the first difference where they do not, or where, in a run of at least the
 //! default count, a number that an operation can give never came up.

@@ -19,6 +19,7 @@ pub(crate) enum Operation {
     ProjectStrict,
     Filter,
     Normalize,
+    MergeParkedFirst,
 }
 
 /// What an operation takes beside its buffers.
@@ -29,11 +30,14 @@ pub(crate) enum Takes {
     TwoSheets,
     IdsAndCount,
     Count,
-    Train,
+    TrainAndMode,
     SheetAndList,
     SheetAndMask,
     SheetSeparatorAndLevel,
 }
+
+/// Modes that are all parked log first, the usual one in front: every one but 0 is.
+pub(crate) const PARKED_FIRST: [u16; 4] = [1, 2, 128, 255];
 
 /// The numbers of reading one sheet, or two, and of the work buffer.
 const OF_A_SHEET: [u8; 10] = [
@@ -50,8 +54,8 @@ const OF_A_SHEET: [u8; 10] = [
 ];
 
 impl Operation {
-    /// Every operation, in the order that they are run and printed in.
-    pub(crate) const ALL: [Self; 13] = [
+    /// Every operation, in the order that they are run, printed and stored in.
+    pub(crate) const ALL: [Self; 14] = [
         Self::IsNested,
         Self::IndexOf,
         Self::FlattenedFields,
@@ -65,9 +69,11 @@ impl Operation {
         Self::ProjectStrict,
         Self::Filter,
         Self::Normalize,
+        Self::MergeParkedFirst,
     ];
 
-    /// The name, that of the export without its prefix.
+    /// The name, that of the export without its prefix; a merge that is parked log first has
+    /// a name of its own.
     pub(crate) const fn name(self) -> &'static str {
         match self {
             Self::IsNested => "is_nested",
@@ -83,6 +89,7 @@ impl Operation {
             Self::ProjectStrict => "project_strict",
             Self::Filter => "filter",
             Self::Normalize => "normalize",
+            Self::MergeParkedFirst => "merge_parked_first",
         }
     }
 
@@ -93,7 +100,7 @@ impl Operation {
             Self::Equal | Self::EqualsDatatype | Self::Contains => Takes::TwoSheets,
             Self::TryNew => Takes::IdsAndCount,
             Self::TryFromFields => Takes::Count,
-            Self::Merge => Takes::Train,
+            Self::Merge | Self::MergeParkedFirst => Takes::TrainAndMode,
             Self::Project | Self::ProjectStrict => Takes::SheetAndList,
             Self::Filter => Takes::SheetAndMask,
             Self::Normalize => Takes::SheetSeparatorAndLevel,
@@ -120,7 +127,7 @@ impl Operation {
                 n::MORE_IDS_THAN_FIELDS,
             ],
             Self::TryFromFields => &[n::TOO_MANY_FIELDS],
-            Self::Merge => &[
+            Self::Merge | Self::MergeParkedFirst => &[
                 n::TRAIN_TOO_LONG,
                 n::CLASH_ORDERED,
                 n::CLASH_FIELD_METADATA,
@@ -147,7 +154,15 @@ impl Operation {
 
     /// Bytes left after a sheet are a train's next sheet.
     fn never_reads_to(self, number: u8) -> bool {
-        self == Self::Merge && number == n::BYTES_LEFT
+        self.takes() == Takes::TrainAndMode && number == n::BYTES_LEFT
+    }
+
+    /// The number of a request where nothing else is said: the mode of a merge, else 0.
+    pub(crate) const fn usual_number(self) -> u16 {
+        match self {
+            Self::MergeParkedFirst => PARKED_FIRST[0],
+            _ => 0,
+        }
     }
 }
 
@@ -165,7 +180,7 @@ impl Takes {
             Self::TwoSheets => [Some("sheet"), Some("other"), None],
             Self::IdsAndCount => [Some("ids"), None, Some("count")],
             Self::Count => [None, None, Some("count")],
-            Self::Train => [Some("train"), None, None],
+            Self::TrainAndMode => [Some("train"), None, Some("mode")],
             Self::SheetAndList => [Some("sheet"), Some("list"), None],
             Self::SheetAndMask => [Some("sheet"), Some("mask"), None],
             Self::SheetSeparatorAndLevel => [Some("sheet"), Some("separator"), Some("level")],
@@ -181,7 +196,7 @@ pub(crate) struct Request {
     pub(crate) first: Vec<u8>,
     /// The other sheet, the name, list, mask or separator.
     pub(crate) second: Vec<u8>,
-    /// The count or level.
+    /// The count, level or mode.
     pub(crate) number: u16,
     /// The work buffer's length.
     pub(crate) work: usize,
@@ -196,7 +211,7 @@ impl Request {
             operation,
             first,
             second: Vec::new(),
-            number: 0,
+            number: operation.usual_number(),
             work: 0,
             answer: 0,
         }
@@ -211,6 +226,11 @@ impl Request {
         }
     }
 
+    /// The mode of a merge.
+    pub(crate) fn mode(&self) -> u8 {
+        u8::try_from(self.number).expect("a mode is a byte")
+    }
+
     /// What the operation gives, by the oracle.
     pub(crate) fn outcome(&self) -> Outcome {
         let (first, second, number) = (&self.first, &self.second, self.number);
@@ -223,7 +243,9 @@ impl Request {
             Operation::Contains => operations::contains(first, second),
             Operation::TryNew => operations::try_new(first, number),
             Operation::TryFromFields => operations::try_from_fields(number),
-            Operation::Merge => operations::merge(first),
+            Operation::Merge | Operation::MergeParkedFirst => {
+                operations::merge(first, self.mode().into())
+            }
             Operation::Project => operations::project(first, second),
             Operation::ProjectStrict => operations::project_strict(first, second),
             Operation::Filter => operations::filter(first, second),

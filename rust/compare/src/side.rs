@@ -26,7 +26,9 @@ impl Side for Oracle {
             Operation::Contains => calls::contains(first, second, work, answer),
             Operation::TryNew => calls::try_new(first, number, answer),
             Operation::TryFromFields => calls::try_from_fields(number, answer),
-            Operation::Merge => calls::merge(first, work, answer),
+            Operation::Merge | Operation::MergeParkedFirst => {
+                calls::merge(first, work, answer, request.mode())
+            }
             Operation::Project => calls::project(first, second, work, answer),
             Operation::ProjectStrict => calls::project_strict(first, second, work, answer),
             Operation::Filter => calls::filter(first, second, work, answer),
@@ -52,7 +54,9 @@ impl Side for Library {
             Operation::FlattenedFields => sheets::lent::flattened_fields(first, work, answer),
             Operation::EqualsDatatype => sheets::lent::equals_datatype(first, second, work, answer),
             Operation::Contains => sheets::lent::contains(first, second, work, answer),
-            Operation::Merge => sheets::lent::merge(first, work, answer),
+            Operation::Merge | Operation::MergeParkedFirst => {
+                sheets::lent::merge(first, work, answer, request.mode())
+            }
             Operation::Project => sheets::lent::project(first, second, work, answer),
             Operation::ProjectStrict => sheets::lent::project_strict(first, second, work, answer),
             Operation::Filter => sheets::lent::filter(first, second, work, answer),

@@ -89,13 +89,13 @@ impl Tally {
 
 impl fmt::Display for Tally {
     fn fmt(&self, f: &mut fmt::Formatter<'_>) -> fmt::Result {
-        writeln!(f, "operation          requests  number: how often")?;
+        writeln!(f, "operation            requests  number: how often")?;
         for operation in Operation::ALL {
             let requests = self.requests_of(operation);
             if requests == 0 {
                 continue;
             }
-            write!(f, "{:<16} {requests:>10} ", operation.name())?;
+            write!(f, "{:<18} {requests:>10} ", operation.name())?;
             for number in 0..NUMBERS as u8 {
                 match self.count(operation, number) {
                     0 => {}
@@ -157,7 +157,9 @@ mod tests {
             assert!(numbers.contains(&0) && numbers.contains(&31));
             assert_eq!(numbers.contains(&32), operation.takes().sheets());
         }
-        assert!(!Operation::Merge.numbers().contains(&8));
+        for merge in [Operation::Merge, Operation::MergeParkedFirst] {
+            assert!(!merge.numbers().contains(&8));
+        }
         assert!(!Operation::Filter.numbers().contains(&30));
     }
 }

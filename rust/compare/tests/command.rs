@@ -27,8 +27,13 @@ fn two_sides_that_agree_end_well() {
         .strip_prefix("compare: ")
         .and_then(|rest| rest.strip_suffix(" requests, no difference"))
         .unwrap_or_else(|| panic!("{last}"));
-    assert!(count.parse::<u64>().unwrap() > 13 * 300);
-    for operation in ["is_nested", "contains", "try_from_fields", "normalize"] {
+    assert!(count.parse::<u64>().unwrap() > 14 * 300);
+    for operation in [
+        "is_nested ",
+        "try_from_fields ",
+        "merge ",
+        "merge_parked_first ",
+    ] {
         assert!(text.contains(operation), "{text}");
     }
 }
@@ -87,6 +92,7 @@ fn the_library_agrees_on_a_short_run() {
         "project ",
         "normalize ",
         "merge ",
+        "merge_parked_first ",
     ] {
         let compared = text.lines().any(|line| line.starts_with(operation));
         assert!(compared, "{operation}\n{text}");

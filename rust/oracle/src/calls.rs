@@ -52,9 +52,10 @@ pub fn try_from_fields(count: u16, answer: &mut [u8]) -> Exit {
     without_sheets(operations::try_from_fields(count), answer)
 }
 
-/// The merged sheet of a train.
-pub fn merge(train: &[u8], work: &mut [u8], answer: &mut [u8]) -> Exit {
-    on_sheets(total(&[train]), operations::merge(train), work, answer)
+/// The merged sheet of a train, in the mode of this number.
+pub fn merge(train: &[u8], work: &mut [u8], answer: &mut [u8], mode: u8) -> Exit {
+    let outcome = operations::merge(train, mode.into());
+    on_sheets(total(&[train]), outcome, work, answer)
 }
 
 /// The sheet of the columns that a list names.

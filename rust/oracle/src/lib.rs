@@ -1,5 +1,6 @@
 //! The oracle: what every call of document 01 must give, written from the paper and the
-//! readings of it alone, with the crate arrow-schema 60.1.0 itself doing each operation.
+//! readings of it alone, with the crate arrow-schema 60.1.0 itself doing each operation. What
+//! document 02 adds beside the crate is by hand, over as much of the crate as there is.
 //!
 //! Nothing here is taken from the port, so that both can be held against each other:
 //!

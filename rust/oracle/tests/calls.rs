@@ -24,7 +24,10 @@ fn exit(number: u8, place: usize, length: usize) -> Exit {
 fn an_accepted_call_writes_the_answer_alone_and_clears_the_work_buffer() {
     let both = train(&[v(DataType::Null), v(DataType::Int32)]);
     let (mut work, mut answer) = (lent(4 * 16 + 3), lent(10));
-    assert_eq!(calls::merge(&both, &mut work, &mut answer), exit(0, 0, 8));
+    assert_eq!(
+        calls::merge(&both, &mut work, &mut answer, 0),
+        exit(0, 0, 8)
+    );
     assert_eq!(answer, hex("0201000501007604 aaaa"));
     assert_eq!(work, vec![0; 67]);
 }
@@ -80,7 +83,7 @@ fn both_sheets_count_for_32_and_names_lists_masks_and_separators_do_not() {
 #[test]
 fn empty_inputs_need_no_work_room() {
     let mut answer = lent(2);
-    assert_eq!(calls::merge(&[], &mut [], &mut answer), exit(0, 0, 1));
+    assert_eq!(calls::merge(&[], &mut [], &mut answer, 0), exit(0, 0, 1));
     assert_eq!(answer, hex("00 aa"));
     assert_eq!(calls::is_nested(&[], &mut [], &mut answer), exit(1, 0, 0));
     assert_eq!(calls::equal(&[], &[], &mut [], &mut answer), exit(1, 0, 0));
@@ -120,7 +123,10 @@ fn an_answer_above_65_535_bytes_is_30_before_31() {
     );
     let both = train(&[named(40_000), named(40_001)]);
     let (mut work, mut answer) = (lent(4 * both.len()), lent(0));
-    assert_eq!(calls::merge(&both, &mut work, &mut answer), exit(30, 0, 0));
+    assert_eq!(
+        calls::merge(&both, &mut work, &mut answer, 0),
+        exit(30, 0, 0)
+    );
     assert!(work.iter().all(|&byte| byte == 0));
 }
 

@@ -3,10 +3,12 @@
 mod common;
 
 use arrow_schema::{DataType, Field, Metadata, Schema, UnionMode};
-use common::{col, dictionary, hex, list, refused, sheet, structure, train, union, v, v_nullable};
+use common::{
+    col, dictionary, hex, list, merge, refused, sheet, structure, train, union, v, v_nullable,
+};
 use oracle::operations::{
     Outcome, contains, equal, equals_datatype, filter, flattened_fields, index_of, is_nested,
-    leaf_count, merge, normalize, project, project_strict, try_from_fields, try_new,
+    leaf_count, normalize, project, project_strict, try_from_fields, try_new,
 };
 use oracle::write;
 use std::sync::Arc;

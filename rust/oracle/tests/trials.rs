@@ -4,12 +4,12 @@ mod common;
 
 use arrow_schema::{DataType, Field, Schema, UnionMode};
 use common::{
-    at_level, col, dictionary, hex, list, named, refused, sheet, structure, train, union, v,
+    at_level, col, dictionary, hex, list, merge, named, refused, sheet, structure, train, union, v,
     v_nullable,
 };
 use oracle::operations::{
-    contains, filter, is_nested, leaf_count, merge, normalize, project, project_strict,
-    try_from_fields, try_new,
+    contains, filter, is_nested, leaf_count, normalize, project, project_strict, try_from_fields,
+    try_new,
 };
 
 #[test]

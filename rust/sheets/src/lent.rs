@@ -28,47 +28,56 @@ pub struct Exit {
 
 /// Gives each function below its body: `fn NAME(PARAMETERS) = EXPORT;`.
 ///
-/// An export takes a slice as a pointer and a length, a number as it is, and then the two
-/// places that it sets; its result is the number. Each kind of parameter has a rule of its
-/// own, which adds it to three lists: the parameters of the function, the types that the
-/// export takes, and what it is given.
+/// An export takes a slice as a pointer and a length, a number as it is, then the two places
+/// that it sets, and behind them each choice (a `u8`); its result is the number. Each kind of
+/// parameter has a rule of its own, which adds it to the parameters of the function, and then
+/// to the types that the export takes and to what it is given, before the two places or
+/// behind them.
 macro_rules! calls {
     ($($(#[$doc:meta])* fn $name:ident($($parameters:tt)*) = $export:ident;)*) => {
-        $(calls! { @take [$(#[$doc])* $name $export] [] [] [] $($parameters)*, })*
+        $(calls! { @take [$(#[$doc])* $name $export] [] [] [] [] [] $($parameters)*, })*
     };
-    (@take $call:tt [$($own:tt)*] [$($types:tt)*] [$($given:tt)*] $slice:ident: &[u8], $($rest:tt)*) => {
+    (@take $call:tt [$($own:tt)*] [$($types:tt)*] [$($given:tt)*] $behind:tt $last:tt $slice:ident: &[u8], $($rest:tt)*) => {
         calls! { @take $call
             [$($own)* $slice: &[u8],]
             [$($types)* _: *const u8, _: usize,]
             [$($given)* $slice.as_ptr(), $slice.len(),]
-            $($rest)* }
+            $behind $last $($rest)* }
     };
-    (@take $call:tt [$($own:tt)*] [$($types:tt)*] [$($given:tt)*] $buffer:ident: &mut [u8], $($rest:tt)*) => {
+    (@take $call:tt [$($own:tt)*] [$($types:tt)*] [$($given:tt)*] $behind:tt $last:tt $buffer:ident: &mut [u8], $($rest:tt)*) => {
         calls! { @take $call
             [$($own)* $buffer: &mut [u8],]
             [$($types)* _: *mut u8, _: usize,]
             [$($given)* $buffer.as_mut_ptr(), $buffer.len(),]
-            $($rest)* }
+            $behind $last $($rest)* }
     };
-    (@take $call:tt [$($own:tt)*] [$($types:tt)*] [$($given:tt)*] $number:ident: u16, $($rest:tt)*) => {
+    (@take $call:tt [$($own:tt)*] [$($types:tt)*] [$($given:tt)*] $behind:tt $last:tt $number:ident: u16, $($rest:tt)*) => {
         calls! { @take $call
             [$($own)* $number: u16,]
             [$($types)* _: u16,]
             [$($given)* $number,]
+            $behind $last $($rest)* }
+    };
+    (@take $call:tt [$($own:tt)*] $types:tt $given:tt [$($behind:tt)*] [$($last:tt)*] $choice:ident: u8, $($rest:tt)*) => {
+        calls! { @take $call
+            [$($own)* $choice: u8,]
+            $types $given
+            [$($behind)* _: u8,]
+            [$($last)* $choice,]
             $($rest)* }
     };
-    (@take [$(#[$doc:meta])* $name:ident $export:ident] [$($own:tt)*] [$($types:tt)*] [$($given:tt)*]) => {
+    (@take [$(#[$doc:meta])* $name:ident $export:ident] [$($own:tt)*] [$($types:tt)*] [$($given:tt)*] [$($behind:tt)*] [$($last:tt)*]) => {
         $(#[$doc])*
         pub fn $name($($own)*) -> Exit {
             unsafe extern "C" {
-                fn $export($($types)* _: *mut usize, _: *mut usize) -> u8;
+                fn $export($($types)* _: *mut usize, _: *mut usize, $($behind)*) -> u8;
             }
             // A value that no call gives, so that a place or length left unset is seen.
             let (mut place, mut length) = (usize::MAX, usize::MAX);
             // SAFETY: the export reads the slices, reads and writes the buffers, sets both
             // numbers, and keeps no pointer. Each pointer is that of a live slice of its
             // length or of a live number, and `&mut` overlaps nothing.
-            let number = unsafe { $export($($given)* &mut place, &mut length) };
+            let number = unsafe { $export($($given)* &mut place, &mut length, $($last)*) };
             Exit { number, place, length }
         }
     };
@@ -97,7 +106,10 @@ calls! {
     fn try_from_fields(count: u16, answer: &mut [u8]) = sheets_try_from_fields;
 
     /// Merges a train, sheets end to end, into one sheet. No bytes are a train of no sheets.
-    fn merge(train: &[u8], work: &mut [u8], answer: &mut [u8]) = sheets_merge;
+    ///
+    /// A mode of 0 is the Rust's; every other is parked log first, and none is refused.
+    /// [`Mode`](crate::Mode) says what they do, and turns into the number.
+    fn merge(train: &[u8], work: &mut [u8], answer: &mut [u8], mode: u8) = sheets_merge;
 
     /// Writes the index of the first column of that name as a u16, or gives 13.
     ///

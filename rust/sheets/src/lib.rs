@@ -6,17 +6,19 @@
 //! them, are in `lent`.
 //!
 //! The feature `linked` links target/staticlib/libexports.a of the repository, which
-//! `rt staticlib exports` makes; without it only [`Refusal`] is here.
+//! `rt staticlib exports` makes; without it only [`Refusal`] and [`Mode`] are here.
 #![cfg_attr(feature = "linked", doc = "")]
 #![cfg_attr(feature = "linked", doc = include_str!("../README.md"))]
 #![deny(missing_docs)]
 
 #[cfg(feature = "linked")]
 pub mod lent;
+mod mode;
 #[cfg(feature = "linked")]
 mod owned;
 mod refusal;
 
+pub use mode::Mode;
 #[cfg(feature = "linked")]
 pub use owned::{
     contains, equal, equals_datatype, filter, flattened_fields, index_of, is_nested, merge,

@@ -3,6 +3,7 @@
 //! The buffers are always large enough here, so 31 and 32 are never met.
 
 use crate::lent::{self, Exit};
+use crate::mode::Mode;
 use crate::refusal::Refusal;
 
 /// No answer is longer: it would be refused as 30.
@@ -198,7 +199,7 @@ pub fn filter(sheet: &[u8], mask: &[bool]) -> Result<Vec<u8>, Refusal> {
     })
 }
 
-/// Merges sheets, in their order, into one.
+/// Merges sheets, in their order and in a mode, into one.
 ///
 /// Each slice must be one whole sheet: a slice that is cut short, or has bytes left, is
 /// refused as such, and never completed by the next one. So "sheet 1" of a refusal is
@@ -209,20 +210,24 @@ pub fn filter(sheet: &[u8], mask: &[bool]) -> Result<Vec<u8>, Refusal> {
 /// The [`Refusal`] of the first broken sheet or of a 257th (its place counts bytes from the
 /// first sheet's start), of a clash (its place is the sheet), or of an answer above 65,535
 /// bytes.
-pub fn merge(sheets: &[&[u8]]) -> Result<Vec<u8>, Refusal> {
+pub fn merge(sheets: &[&[u8]], mode: Mode) -> Result<Vec<u8>, Refusal> {
     let train = sheets.concat();
     on_sheets(train.len(), |work, answer| {
-        first_broken(sheets, work, answer).unwrap_or_else(|| lent::merge(&train, work, answer))
+        first_broken(sheets, work, answer)
+            .unwrap_or_else(|| lent::merge(&train, work, answer, mode.into()))
     })
 }
 
-/// Merges a train, sheets end to end, into one sheet. No bytes are a train of no sheets.
+/// Merges a train, sheets end to end, in a mode, into one sheet. No bytes are a train of no
+/// sheets.
 ///
 /// # Errors
 ///
 /// As [`merge`], but where one sheet ends and the next begins the bytes alone decide.
-pub fn merge_train(train: &[u8]) -> Result<Vec<u8>, Refusal> {
-    on_sheets(train.len(), |work, answer| lent::merge(train, work, answer))
+pub fn merge_train(train: &[u8], mode: Mode) -> Result<Vec<u8>, Refusal> {
+    on_sheets(train.len(), |work, answer| {
+        lent::merge(train, work, answer, mode.into())
+    })
 }
 
 /// The refusal of the first slice that is not one whole sheet, or of a 257th.

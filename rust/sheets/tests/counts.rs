@@ -1,11 +1,12 @@
 //! A struct that has more than 65,535 children on the way: clashes are still looked for, and the answer is then too long.
 #![cfg(feature = "linked")]
 
-use sheets::merge_train;
+use sheets::{Mode, merge_train};
 
 /// How many new children each sheet has, and how many sheets.
 const CHILDREN: usize = 8192;
 const SHEETS: usize = 8;
+const _: () = assert!(CHILDREN * SHEETS > 65_535);
 
 /// The sheet of one column `s:Struct` with these Int8 children, whose names are three digits of six bits.
 fn sheet(children: std::ops::Range<usize>, code: u8) -> Vec<u8> {
@@ -27,12 +28,11 @@ fn sheet(children: std::ops::Range<usize>, code: u8) -> Vec<u8> {
 fn more_than_65535_children_on_the_way() {
     let sheets = (0..SHEETS).map(|one| sheet(one * CHILDREN..(one + 1) * CHILDREN, 2));
     let mut train = sheets.collect::<Vec<_>>().concat();
-    assert!(CHILDREN * SHEETS > 65_535);
-    let refusal = merge_train(&train).expect_err("an answer above 65,535 bytes");
+    let refusal = merge_train(&train, Mode::AsTheRust).expect_err("an answer above 65,535 bytes");
     assert_eq!((refusal.number, refusal.place), (30, 0));
 
     // the first child again, as Int16
     train.extend(sheet(0..1, 3));
-    let refusal = merge_train(&train).expect_err("a clash behind them");
+    let refusal = merge_train(&train, Mode::AsTheRust).expect_err("a clash behind them");
     assert_eq!((refusal.number, refusal.place), (22, SHEETS));
 }

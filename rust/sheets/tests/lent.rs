@@ -184,9 +184,21 @@ fn normalize() {
 #[test]
 fn merge() {
     let p3 = [2, 1, 0, 4, 1, 0, b'v', 0, 2, 1, 0, 4, 1, 0, b'v', 4];
-    let got = with(64, 9, |work, answer| sheets::lent::merge(&p3, work, answer));
+    let got = with(64, 9, |work, answer| {
+        sheets::lent::merge(&p3, work, answer, 0)
+    });
     assert_eq!(got, (exit(0, 0, 8), [&OTHER[..], &[170]].concat()));
     let p5 = [2, 1, 0, 4, 1, 0, b'v', 0, 2, 1, 0, 6, 1, 0, b'v', 34, 2, 24];
-    let got = with(72, 1, |work, answer| sheets::lent::merge(&p5, work, answer));
+    let got = with(72, 1, |work, answer| {
+        sheets::lent::merge(&p5, work, answer, 0)
+    });
     assert_eq!(got, (exit(20, 1, 0), vec![170]));
+    // Every other mode is parked log first.
+    let table = vec![2, 1, 0, 7, 1, 0, b'v', 34, 2, 24, 170];
+    for mode in 1..=u8::MAX {
+        let got = with(72, 11, |work, answer| {
+            sheets::lent::merge(&p5, work, answer, mode)
+        });
+        assert_eq!(got, (exit(0, 0, 10), table.clone()), "{mode}");
+    }
 }

@@ -136,7 +136,9 @@ fn filter() {
 
 mod merging {
     use super::*;
-    use sheets::{merge, merge_train};
+    use sheets::{Mode, merge, merge_train};
+
+    const MODES: [Mode; 2] = [Mode::AsTheRust, Mode::ParkedFirst];
 
     /// `v:Null`.
     const PARKED: [u8; 8] = [2, 1, 0, 4, 1, 0, b'v', 0];
@@ -147,47 +149,74 @@ mod merging {
 
     #[test]
     fn the_parked_log_comes_first() {
-        // P1, P2, P3, P4, P5
-        assert_eq!(merge(&[]), Ok(EMPTY.to_vec()));
-        assert_eq!(merge(&[&PARKED]), Ok(PARKED.to_vec()));
-        assert_eq!(merge(&[&PARKED, &PLAIN]), Ok(NULLABLE.to_vec()));
-        let parked_twice = vec![2, 1, 0, 5, 1, 0, b'v', 0];
-        assert_eq!(merge(&[&PARKED, &PARKED]), Ok(parked_twice));
-        let refusal = merge(&[&PARKED, &ORDERED]).unwrap_err();
+        // P1, P2, P3, P4
+        for mode in MODES {
+            assert_eq!(merge(&[], mode), Ok(EMPTY.to_vec()));
+            assert_eq!(merge(&[&PARKED], mode), Ok(PARKED.to_vec()));
+            assert_eq!(merge(&[&PARKED, &PLAIN], mode), Ok(NULLABLE.to_vec()));
+            let parked_twice = vec![2, 1, 0, 5, 1, 0, b'v', 0];
+            assert_eq!(merge(&[&PARKED, &PARKED], mode), Ok(parked_twice));
+        }
+    }
+
+    #[test]
+    fn p5_by_the_mode() {
+        let refusal = merge(&[&PARKED, &ORDERED], Mode::AsTheRust).unwrap_err();
         assert_eq!((refusal.number, refusal.place), (20, 1));
         let told = "sheet 1: the ordered flags of a column differ";
         assert_eq!(refusal.to_string(), told);
+        let table = vec![2, 1, 0, 7, 1, 0, b'v', 34, 2, 24];
+        for sheets in [[&PARKED[..], &ORDERED], [&ORDERED, &PARKED]] {
+            let refusal = refused(20, 1);
+            assert_eq!(merge(&sheets, Mode::AsTheRust), refusal);
+            assert_eq!(merge_train(&sheets.concat(), Mode::AsTheRust), refusal);
+            let accepted = Ok(table.clone());
+            assert_eq!(merge(&sheets, Mode::ParkedFirst), accepted);
+            assert_eq!(merge_train(&sheets.concat(), Mode::ParkedFirst), accepted);
+        }
+        // Two types that are not Null: the flags are compared, and before the types.
+        for mode in MODES {
+            assert_eq!(merge(&[&ORDERED, &BYTE], mode), refused(20, 1));
+        }
     }
 
     #[test]
     fn a_train_is_merged_as_its_sheets_are() {
-        assert_eq!(merge_train(&[]), Ok(EMPTY.to_vec()));
-        for sheets in [[&PARKED, &PLAIN], [&PLAIN, &BYTE], [&RENAMED, &PLAIN]] {
-            let slices = sheets.map(|sheet| &sheet[..]);
-            assert_eq!(merge(&slices), merge_train(&slices.concat()));
+        for mode in MODES {
+            assert_eq!(merge_train(&[], mode), Ok(EMPTY.to_vec()));
+            for sheets in [[&PARKED, &PLAIN], [&PLAIN, &BYTE], [&RENAMED, &PLAIN]] {
+                let slices = sheets.map(|sheet| &sheet[..]);
+                assert_eq!(merge(&slices, mode), merge_train(&slices.concat(), mode));
+            }
+            assert_eq!(merge_train(&[PLAIN, BYTE].concat(), mode), refused(22, 1));
         }
-        assert_eq!(merge_train(&[PLAIN, BYTE].concat()), refused(22, 1));
     }
 
     #[test]
     fn a_slice_is_one_whole_sheet() {
         let (begin, end) = PLAIN.split_at(3);
-        assert_eq!(merge_train(&PLAIN), Ok(PLAIN.to_vec()));
-        assert_eq!(merge(&[begin, end]), refused(1, 3));
-        assert_eq!(merge(&[&PARKED, &[PLAIN, PLAIN].concat()]), refused(8, 16));
-        assert_eq!(merge(&[&PARKED, &[], &PLAIN]), refused(1, 8));
-        // A broken sheet is told before a clash of the sheets before it.
-        assert_eq!(merge(&[&PLAIN, &BYTE, &[4]]), refused(2, 16));
+        for mode in MODES {
+            let merge = |sheets: &[&[u8]]| merge(sheets, mode);
+            assert_eq!(merge_train(&PLAIN, mode), Ok(PLAIN.to_vec()));
+            assert_eq!(merge(&[begin, end]), refused(1, 3));
+            assert_eq!(merge(&[&PARKED, &[PLAIN, PLAIN].concat()]), refused(8, 16));
+            assert_eq!(merge(&[&PARKED, &[], &PLAIN]), refused(1, 8));
+            // A broken sheet is told before a clash of the sheets before it.
+            assert_eq!(merge(&[&PLAIN, &BYTE, &[4]]), refused(2, 16));
+        }
     }
 
     #[test]
     fn there_are_at_most_256_sheets() {
         let sheets = vec![&PLAIN[..]; 257];
-        assert_eq!(merge(&sheets[..256]), Ok(PLAIN.to_vec()));
-        assert_eq!(merge(&sheets), refused(33, 2048));
-        assert_eq!(merge_train(&sheets.concat()), refused(33, 2048));
-        // Nothing of the 257th is read, not even whether it has a byte.
-        assert_eq!(merge(&[&sheets[..256], &[&[]]].concat()), refused(33, 2048));
+        for mode in MODES {
+            assert_eq!(merge(&sheets[..256], mode), Ok(PLAIN.to_vec()));
+            assert_eq!(merge(&sheets, mode), refused(33, 2048));
+            assert_eq!(merge_train(&sheets.concat(), mode), refused(33, 2048));
+            // Nothing of the 257th is read, not even whether it has a byte.
+            let empty = [&sheets[..256], &[&[]]].concat();
+            assert_eq!(merge(&empty, mode), refused(33, 2048));
+        }
     }
 
     #[test]
@@ -198,7 +227,9 @@ mod merging {
             sheet.push(2);
             sheet
         };
-        assert_eq!(merge(&[&long(b'a'), &long(b'b')]), refused(30, 0));
-        assert_eq!(merge(&[&long(b'a'), &long(b'a')]), Ok(long(b'a')));
+        for mode in MODES {
+            assert_eq!(merge(&[&long(b'a'), &long(b'b')], mode), refused(30, 0));
+            assert_eq!(merge(&[&long(b'a'), &long(b'a')], mode), Ok(long(b'a')));
+        }
     }
 }

@@ -1,6 +1,7 @@
 -- A field, its type, and what the type holds. The levels left fall from a type to what it holds, and each function calls on one that stands before it at equal levels.
 use native.Mathlib.Omega.{arith}
 use borrow.Author.Needs.{needs}
+use borrow.Author.Tests.{not-true, not-false}
 use mathlib.Core.Path.{refl, _∙_}
 use Prim.Native.Nat.{_+_, _*_}
 use Rattle.field.proofs.Fields.{rest-merged, field-ordered, field-stopped, field-merged}
@@ -40,6 +41,7 @@ use Rattle.field.proofs.put.Reads as put
 use Rattle.field.proofs.put.Kinds as put-kinds
 use Rattle.field.proofs.+merge_field+merge_list+merge_rest+merge_same_code+merge_struct+merge_type+pour+pour_own+put.Lts-put as put-lts
 use Rattle.field.proofs.is_list.Reads as is-list-reads
+use Rattle.field.proofs.orders_agree.Reads as orders-agree-reads
 use Rattle.field.proofs.same_or_clash.Reads as same-or-clash-reads
 use Rattle.field.proofs.set_flags.Reads as set-flags-reads
 use Rattle.members.proofs.merge_union.Reads as merge-union-reads
@@ -143,7 +145,7 @@ abbrev put-below : ℕ → In 2 put-kinds.ps
 put-below t = and 2 put-kinds.ps (falls 2 put-kinds.ps _<_ μ-put t) put.Pre
 
 abbrev merge-field-calls : ℕ → merge-field-lts.Claims
-merge-field-calls t = (ahead-reads.Asked, ahead-reads.Learnt, three-reads.Asked, three-reads.Learnt, byte-reads.Asked, byte-reads.Learnt, merge-metadata-reads.Asked, merge-metadata-reads.Learnt, merge-rest-below t, merge-rest.Post)
+merge-field-calls t = (orders-agree-reads.Asked, orders-agree-reads.Learnt, merge-metadata-reads.Asked, merge-metadata-reads.Learnt, merge-rest-below t, merge-rest.Post)
 
 abbrev merge-list-calls : ℕ → merge-list-lts.Claims
 merge-list-calls t = (ahead-reads.Asked, ahead-reads.Learnt, open-list-reads.Asked, open-list-reads.Learnt, merge-field-below t, merge-field.Post)
@@ -170,61 +172,61 @@ abbrev put-calls : ℕ → put-lts.Claims
 put-calls t = (find-reads.Asked, find-reads.Learnt, merge-field-below t, merge-field.Post, next-entry-reads.Asked, next-entry-reads.Learnt, insert-entry-reads.Asked, insert-entry-reads.Learnt)
 
 abbrev pour-Inv-loop : pour-lts.InvT-loop
-pour-Inv-loop s w₀ used row q count levels held₀ hint₀ place₀ left₀ w held hint place left = Pouring levels s w₀ w used row q count held hint place left
+pour-Inv-loop s w₀ used row q count levels parked held₀ hint₀ place₀ left₀ w held hint place left = Pouring parked levels s w₀ w used row q count held hint place left
 
 abbrev pour-μ-loop : pour-lts.MeasureT-loop
-pour-μ-loop s w₀ used row q count levels held₀ hint₀ place₀ left₀ w held hint place left = left
+pour-μ-loop s w₀ used row q count levels parked held₀ hint₀ place₀ left₀ w held hint place left = left
 
 merge-field-returns : (t : ℕ) → merge-field-lts.Need-returns (merge-field-calls t) (merge-field-at t) merge-field.Post
-merge-field-returns t c = (refl, field-ordered (c .before .before .before .before .ahead .ensures) (c .before .before .before .three .ensures .0) (c .before .before .byte .ensures .0) (c .before .byte2 .ensures .0) (c .if1 .taken))
+merge-field-returns t c = (refl, field-ordered _ (c .before .orders-agree .ensures) (not-true _ (c .if1 .taken)))
 
 merge-field-returns-2 : (t : ℕ) → merge-field-lts.Need-returns-2 (merge-field-calls t) (merge-field-at t) merge-field.Post
-merge-field-returns-2 t c = let m = c .before .before .before .before .merge-metadata .ensures in (m .sameLength, field-stopped (c .before .before .before .before .before .before .before .before .before .before .ahead .ensures) (c .before .before .before .before .before .before .before .before .before .three .ensures .0) (c .before .before .before .before .before .before .before .before .byte .ensures .0) (c .before .before .before .before .before .before .before .byte2 .ensures .0) (c .before .before .before .before .before .before .if1 .left) m (c .enum-told .given .1))
+merge-field-returns-2 t c = let m = c .before .before .before .before .merge-metadata .ensures in (m .sameLength, field-stopped _ (c .before .before .before .before .before .before .before .orders-agree .ensures) (not-false _ (c .before .before .before .before .before .before .if1 .left)) m (c .enum-told .given .1))
 
 merge-field-returns-3 : (t : ℕ) → merge-field-lts.Need-returns-3 (merge-field-calls t) (merge-field-at t) merge-field.Post
-merge-field-returns-3 t c = let m = c .before .before .before .before .before .before .before .before .before .merge-metadata .ensures in let r = c .before .before .merge-rest .ensures in (r .0 ∙ m .sameLength, field-merged (c .before .before .before .before .before .before .before .before .before .before .before .before .before .before .before .ahead .ensures) (c .before .before .before .before .before .before .before .before .before .before .before .before .before .before .three .ensures .0) (c .before .before .before .before .before .before .before .before .before .before .before .before .before .byte .ensures .0) (c .before .before .before .before .before .before .before .before .before .before .before .before .byte2 .ensures .0) (c .before .before .before .before .before .before .before .before .before .before .before .if1 .left) m (c .before .before .before .before .before .got .given .1) (r .1))
+merge-field-returns-3 t c = let m = c .before .before .before .before .before .before .before .before .before .merge-metadata .ensures in let r = c .before .before .merge-rest .ensures in (r .0 ∙ m .sameLength, field-merged _ (c .before .before .before .before .before .before .before .before .before .before .before .before .orders-agree .ensures) (not-false _ (c .before .before .before .before .before .before .before .before .before .before .before .if1 .left)) m (c .before .before .before .before .before .got .given .1) (r .1))
 
 merge-list-returns : (t : ℕ) → merge-list-lts.Need-returns (merge-list-calls t) (merge-list-at t) merge-list.Post
-merge-list-returns t c = let o = c .before .before .before .before .before .before .before .open-list .ensures in let m = c .before .before .merge-field .ensures in (m .0 ∙ o .0, list-merged (c .before .before .before .before .before .before .before .before .before .ahead .ensures) (o .0) (o .1) (c .before .before .before .ahead2 .ensures) (m .1))
+merge-list-returns t c = let o = c .before .before .before .before .before .before .before .open-list .ensures in let m = c .before .before .merge-field .ensures in (m .0 ∙ o .0, list-merged _ (c .before .before .before .before .before .before .before .before .before .ahead .ensures) (o .0) (o .1) (c .before .before .before .ahead2 .ensures) (m .1))
 
 merge-rest-returns : (t : ℕ) → merge-rest-lts.Need-returns (merge-rest-calls t) (merge-rest-at t) merge-rest.Post
-merge-rest-returns t c = let f = c .before .before .before .before .before .before .set-flags .ensures in let t = c .before .before .merge-type .ensures in (t .0 ∙ f .0, rest-merged (c .before .before .before .before .before .before .before .before .before .skip-head .ensures) (c .before .before .before .before .before .before .before .before .skip-head2 .ensures) (f .0) (f .1) (t .1))
+merge-rest-returns t c = let f = c .before .before .before .before .before .before .set-flags .ensures in let t = c .before .before .merge-type .ensures in (t .0 ∙ f .0, rest-merged _ (c .before .before .before .before .before .before .before .before .before .skip-head .ensures) (c .before .before .before .before .before .before .before .before .skip-head2 .ensures) (f .0) (f .1) (t .1))
 
 merge-same-code-returns : (t : ℕ) → merge-same-code-lts.Need-returns (merge-same-code-calls t) (merge-same-code-at t) merge-same-code.Post
-merge-same-code-returns t c = (refl, no-level (c .if1 .taken))
+merge-same-code-returns t c = (refl, no-level _ (c .if1 .taken))
 
 merge-same-code-returns-2 : (t : ℕ) → merge-same-code-lts.Need-returns-2 (merge-same-code-calls t) (merge-same-code-at t) merge-same-code.Post
-merge-same-code-returns-2 t c = let m = c .before .before .merge-struct .ensures in (m .0, same-struct (c .before .before .before .before .if2 .taken) (m .1))
+merge-same-code-returns-2 t c = let m = c .before .before .merge-struct .ensures in (m .0, same-struct _ (c .before .before .before .before .if2 .taken) (m .1))
 
 merge-same-code-returns-3 : (t : ℕ) → merge-same-code-lts.Need-returns-3 (merge-same-code-calls t) (merge-same-code-at t) merge-same-code.Post
-merge-same-code-returns-3 t c = let m = c .before .before .merge-union .ensures in (m .0, same-union _ _ (c .before .before .before .before .if3 .taken) (m .1))
+merge-same-code-returns-3 t c = let m = c .before .before .merge-union .ensures in (m .0, same-union _ _ _ (c .before .before .before .before .if3 .taken) (m .1))
 
 merge-same-code-returns-4 : (t : ℕ) → merge-same-code-lts.Need-returns-4 (merge-same-code-calls t) (merge-same-code-at t) merge-same-code.Post
-merge-same-code-returns-4 t c = let m = c .before .before .merge-list .ensures in (m .0, same-list (c .before .before .before .before .before .is-list .ensures) (c .before .before .before .before .if4 .taken) (m .1))
+merge-same-code-returns-4 t c = let m = c .before .before .merge-list .ensures in (m .0, same-list _ (c .before .before .before .before .before .is-list .ensures) (c .before .before .before .before .if4 .taken) (m .1))
 
 merge-same-code-returns-5 : (t : ℕ) → merge-same-code-lts.Need-returns-5 (merge-same-code-calls t) (merge-same-code-at t) merge-same-code.Post
-merge-same-code-returns-5 t c = let m = c .before .before .same-or-clash .ensures in (m .0, same-other (c .before .before .before .before .before .is-list .ensures) (c .before .before .before .before .if4 .left) (c .before .before .before .before .before .before .before .if2 .left) (c .before .before .before .before .before .before .if3 .left) (m .1))
+merge-same-code-returns-5 t c = let m = c .before .before .same-or-clash .ensures in (m .0, same-other _ (c .before .before .before .before .before .is-list .ensures) (c .before .before .before .before .if4 .left) (c .before .before .before .before .before .before .before .if2 .left) (c .before .before .before .before .before .before .if3 .left) (m .1))
 
 merge-struct-returns : (t : ℕ) → merge-struct-lts.Need-returns (merge-struct-calls t) (merge-struct-at t) merge-struct.Post
-merge-struct-returns t c = let o = c .before .before .before .before .pour-own .ensures in (o .0, struct-stopped (c .before .before .before .before .before .before .ahead .ensures) (o .0) (o .1) (c .enum-told .given .1))
+merge-struct-returns t c = let o = c .before .before .before .before .pour-own .ensures in (o .0, struct-stopped _ (c .before .before .before .before .before .before .ahead .ensures) (o .0) (o .1) (c .enum-told .given .1))
 
 merge-struct-returns-2 : (t : ℕ) → merge-struct-lts.Need-returns-2 (merge-struct-calls t) (merge-struct-at t) merge-struct.Post
-merge-struct-returns-2 t c = let o = c .before .before .before .before .before .before .before .before .before .before .before .before .pour-own .ensures in let p = c .before .before .pour .ensures in (p .0 ∙ o .0, struct-merged (c .before .before .before .before .before .before .before .before .before .before .before .before .before .before .ahead .ensures) (o .0) (o .1) (c .before .before .before .before .before .before .before .before .got .given .1) (c .before .before .before .before .before .before .ahead2 .ensures) (c .before .before .before .before .before .two .ensures .0) (c .before .before .before .ahead3 .ensures) (p .1))
+merge-struct-returns-2 t c = let o = c .before .before .before .before .before .before .before .before .before .before .before .before .pour-own .ensures in let p = c .before .before .pour .ensures in (p .0 ∙ o .0, struct-merged _ (c .before .before .before .before .before .before .before .before .before .before .before .before .before .before .ahead .ensures) (o .0) (o .1) (c .before .before .before .before .before .before .before .before .got .given .1) (c .before .before .before .before .before .before .ahead2 .ensures) (c .before .before .before .before .before .two .ensures .0) (c .before .before .before .ahead3 .ensures) (p .1))
 
 merge-type-returns : (t : ℕ) → merge-type-lts.Need-returns (merge-type-calls t) (merge-type-at t) merge-type.Post
-merge-type-returns t c = let t = c .before .before .take-type .ensures in (t .0, type-taken (c .before .before .before .before .before .before .code-at .ensures) (c .before .before .before .before .before .byte .ensures .0) (c .before .before .before .before .if1 .taken) (t .1))
+merge-type-returns t c = let t = c .before .before .take-type .ensures in (t .0, type-taken _ (c .before .before .before .before .before .before .code-at .ensures) (c .before .before .before .before .before .byte .ensures .0) (c .before .before .before .before .if1 .taken) (t .1))
 
 merge-type-returns-2 : (t : ℕ) → merge-type-lts.Need-returns-2 (merge-type-calls t) (merge-type-at t) merge-type.Post
-merge-type-returns-2 t c = (refl, type-kept (c .before .before .before .code-at .ensures) (c .before .before .byte .ensures .0) (c .before .if1 .left) (c .if2 .taken))
+merge-type-returns-2 t c = (refl, type-kept _ (c .before .before .before .code-at .ensures) (c .before .before .byte .ensures .0) (c .before .if1 .left) (c .if2 .taken))
 
 merge-type-returns-3 : (t : ℕ) → merge-type-lts.Need-returns-3 (merge-type-calls t) (merge-type-at t) merge-type.Post
-merge-type-returns-3 t c = (refl, type-clash (c .before .before .before .before .code-at .ensures) (c .before .before .before .byte .ensures .0) (c .before .before .if1 .left) (c .before .if2 .left) (c .if3 .taken))
+merge-type-returns-3 t c = (refl, type-clash _ (c .before .before .before .before .code-at .ensures) (c .before .before .before .byte .ensures .0) (c .before .before .if1 .left) (c .before .if2 .left) (c .if3 .taken))
 
 merge-type-returns-4 : (t : ℕ) → merge-type-lts.Need-returns-4 (merge-type-calls t) (merge-type-at t) merge-type.Post
-merge-type-returns-4 t c = let m = c .before .before .merge-same-code .ensures in (m .0, type-same (c .before .before .before .before .before .before .before .before .code-at .ensures) (c .before .before .before .before .before .before .before .byte .ensures .0) (c .before .before .before .before .before .before .if1 .left) (c .before .before .before .before .before .if2 .left) (c .before .before .before .before .if3 .left) (m .1))
+merge-type-returns-4 t c = let m = c .before .before .merge-same-code .ensures in (m .0, type-same _ (c .before .before .before .before .before .before .before .before .code-at .ensures) (c .before .before .before .before .before .before .before .byte .ensures .0) (c .before .before .before .before .before .before .if1 .left) (c .before .before .before .before .before .if2 .left) (c .before .before .before .before .if3 .left) (m .1))
 
 pour-loop-holds : (t : ℕ) → pour-lts.Need-loop-holds (pour-calls t) (pour-at t) pour.Post pour-Inv-loop pour-μ-loop
-pour-loop-holds t c = pouring-begin _ _ _ _ _ _ _
+pour-loop-holds t c = pouring-begin _ _ _ _ _ _ _ _
 
 pour-returns : (t : ℕ) → pour-lts.Need-returns (pour-calls t) (pour-at t) pour.Post pour-Inv-loop pour-μ-loop
 pour-returns t c = pouring-stop (c .before .before .before .before .before .before .before .loop .inv) (c .before .before .before .before .before .before .loop-test .taken) (c .before .before .before .before .put .ensures) (c .enum-told .given .1)
@@ -239,16 +241,16 @@ pour-returns-2 : (t : ℕ) → pour-lts.Need-returns-2 (pour-calls t) (pour-at t
 pour-returns-2 t c = pouring-done (c .before .loop .inv) (c .loop-test .left)
 
 pour-own-returns : (t : ℕ) → pour-own-lts.Need-returns (pour-own-calls t) (pour-own-at t) pour-own.Post
-pour-own-returns t c = (refl, struct-open (c .before .byte .ensures .0) (c .if1 .taken))
+pour-own-returns t c = (refl, struct-open _ (c .before .byte .ensures .0) (c .if1 .taken))
 
 pour-own-returns-2 : (t : ℕ) → pour-own-lts.Need-returns-2 (pour-own-calls t) (pour-own-at t) pour-own.Post
-pour-own-returns-2 t c = let o = c .before .before .before .before .before .before .before .open-struct .ensures in let p = c .before .before .pour .ensures in (p .0 ∙ o .0, struct-poured (c .before .before .before .before .before .before .before .before .before .before .before .before .before .before .before .before .before .byte .ensures .0) (c .before .before .before .before .before .before .before .before .before .before .before .before .before .before .before .before .if1 .left) (c .before .before .before .before .before .before .before .before .before .before .before .before .before .before .ahead .ensures) (c .before .before .before .before .before .before .before .before .before .before .before .before .before .three .ensures .0) (c .before .before .before .before .before .before .before .before .before .before .before .ahead2 .ensures) (c .before .before .before .before .before .before .before .before .before .before .ahead3 .ensures) (c .before .before .before .before .before .before .before .before .before .two .ensures .0) (o .0) (o .1) (c .before .before .before .ahead4 .ensures) (p .1))
+pour-own-returns-2 t c = let o = c .before .before .before .before .before .before .before .open-struct .ensures in let p = c .before .before .pour .ensures in (p .0 ∙ o .0, struct-poured _ (c .before .before .before .before .before .before .before .before .before .before .before .before .before .before .before .before .before .byte .ensures .0) (c .before .before .before .before .before .before .before .before .before .before .before .before .before .before .before .before .if1 .left) (c .before .before .before .before .before .before .before .before .before .before .before .before .before .before .ahead .ensures) (c .before .before .before .before .before .before .before .before .before .before .before .before .before .three .ensures .0) (c .before .before .before .before .before .before .before .before .before .before .before .ahead2 .ensures) (c .before .before .before .before .before .before .before .before .before .before .ahead3 .ensures) (c .before .before .before .before .before .before .before .before .before .two .ensures .0) (o .0) (o .1) (c .before .before .before .ahead4 .ensures) (p .1))
 
 put-returns : (t : ℕ) → put-lts.Need-returns (put-calls t) (put-at t) put.Post
-put-returns t c = let m = c .before .before .before .before .merge-field .ensures in (m .0, put-found (c .before .before .before .before .before .before .before .before .before .find .ensures) (c .before .before .before .before .before .before .before .found .given .1) (m .0) (m .1) (c .next-entry .ensures))
+put-returns t c = let m = c .before .before .before .before .merge-field .ensures in (m .0, put-found _ (c .before .before .before .before .before .before .before .before .before .find .ensures) (c .before .before .before .before .before .before .before .found .given .1) (m .0) (m .1) (c .next-entry .ensures))
 
 put-returns-2 : (t : ℕ) → put-lts.Need-returns-2 (put-calls t) (put-at t) put.Post
-put-returns-2 t c = let i = c .before .before .insert-entry .ensures in (i .0, put-absent (c .before .before .before .before .before .before .before .find .ensures) (c .before .before .before .before .before .found2 .given .1) (i .0) (i .1))
+put-returns-2 t c = let i = c .before .before .insert-entry .ensures in (i .0, put-absent _ (c .before .before .before .before .before .before .before .find .ensures) (c .before .before .before .before .before .found2 .given .1) (i .0) (i .1))
 
 pub +merge-field+merge-list+merge-rest+merge-same-code+merge-struct+merge-type+pour+pour-own+put-spec :
     {M : Type 1} → statement M
@@ -266,9 +268,6 @@ pub +merge-field+merge-list+merge-rest+merge-same-code+merge-struct+merge-type+p
     (λ t. merge-field-lts.spec (merge-field-calls t)
     (merge-field-at t)
     merge-field.Post
-    (λ c κs. tt)
-    (λ c κs. tt)
-    (λ c κs. tt)
     (λ c κs. tt)
     (λ c. search needs)
     (merge-field-returns t)

@@ -8,12 +8,12 @@ returns : tie.Need-returns
 returns c =
     let put = c .before .before in
     let refused = put .before .before in
-    too-long _ _ (refused .before .before .if1 .taken) (refused .refused .ensures) (put .put-line .ensures)
+    too-long _ _ _ (refused .before .before .if1 .taken) (refused .refused .ensures) (put .put-line .ensures)
 
 returns-2 : tie.Need-returns-2
 returns-2 c =
     let put = c .before .before in
-    not-too-long _ (put .before .before .if1 .left) (put .put-merged .ensures)
+    not-too-long _ _ (put .before .before .if1 .left) (put .put-merged .ensures)
 
 pub put-program-line-spec : {M : Type 1} → statement M
 put-program-line-spec =

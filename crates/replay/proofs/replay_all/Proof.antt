@@ -9,7 +9,7 @@ abbrev Inv-loop : tie.InvT-loop
 Inv-loop operation₀ operation = Unit {0}
 
 abbrev μ-loop : tie.MeasureT-loop
-μ-loop operation₀ operation = 13 - operation
+μ-loop operation₀ operation = 14 - operation
 
 pub replay-all-spec : {M : Type 1} → statement M
 replay-all-spec =

@@ -6,7 +6,7 @@ use Rattle.try_merge.proofs.merge_read.Statement.{statement}
 use Rattle.try_merge.proofs.merge_read.Tie as tie
 
 returns : tie.Need-returns
-returns c = λ xs e f k room. none-merged _ _ _ _ (c .before .before .before .before .before .before .before .if1 .taken) (c .before .before .before .before .accept-byte .ensures) xs e
+returns c = λ xs e f k room. none-merged _ _ _ _ _ (c .before .before .before .before .before .before .before .if1 .taken) (c .before .before .before .before .accept-byte .ensures) xs e
 
 returns-2 : tie.Need-returns-2
 returns-2 c = λ xs e f k room. c .before .before .before .before .answer-merged .ensures xs e f k (omega (arith, c .before .before .before .before .before .before .before .if1 .left)) room

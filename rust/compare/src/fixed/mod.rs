@@ -1,13 +1,14 @@
 //! The fixed list that a run begins with: document 01's 'Run:' line and trials, the readings'
-//! examples, and RFC 3629's published examples, each with buffers exactly enough, one short
-//! and larger.
+//! examples, parked logs, and RFC 3629's published examples, each with buffers exactly enough,
+//! one short and larger.
 
 mod made;
+mod parked;
 mod readings;
 mod texts;
 
 use crate::bench::{Bench, Difference};
-use crate::request::{Operation, Request, Takes};
+use crate::request::{Operation, PARKED_FIRST, Request, Takes};
 
 /// What a request takes beside its buffers: the first slice, the second, the number.
 type Inputs = (Vec<u8>, Vec<u8>, u16);
@@ -123,7 +124,11 @@ const TRAINS: [&str; 9] = [
 
 /// The whole list for this operation.
 pub(crate) fn run(bench: &mut Bench, operation: Operation) -> Result<(), Box<Difference>> {
-    let examples = [readings::requests(operation), texts::requests(operation)];
+    let examples = [
+        parked::requests(operation),
+        readings::requests(operation),
+        texts::requests(operation),
+    ];
     for (first, second, number) in examples.into_iter().flatten() {
         each(bench, operation, first, second, number)?;
     }
@@ -146,9 +151,10 @@ fn trials(bench: &mut Bench, operation: Operation) -> Result<(), Box<Difference>
             }
             Ok(())
         }
-        Takes::Train => trains()
-            .into_iter()
-            .try_for_each(|train| each(bench, operation, train, Vec::new(), 0)),
+        Takes::TrainAndMode => trains().into_iter().try_for_each(|train| {
+            let mode = operation.usual_number();
+            each(bench, operation, train, Vec::new(), mode)
+        }),
         Takes::IdsAndCount => [(127, 1), (128, 1), (5, 0), (5, 2)]
             .into_iter()
             .try_for_each(|(id, count)| each(bench, operation, vec![id], Vec::new(), count)),
@@ -167,7 +173,8 @@ fn trials(bench: &mut Bench, operation: Operation) -> Result<(), Box<Difference>
     }
 }
 
-/// One request with four pairs of buffers.
+/// One request with four pairs of buffers, and a merge that is parked log first with four of
+/// the numbers that ask for it.
 fn each(
     bench: &mut Bench,
     operation: Operation,
@@ -193,8 +200,12 @@ fn each(
         (work, answer.saturating_sub(1)),
         (work.saturating_sub(1), answer),
     ];
-    for (work, answer) in buffers {
-        (request.work, request.answer) = (work, answer);
+    let numbers = match operation {
+        Operation::MergeParkedFirst => PARKED_FIRST,
+        _ => [number; 4],
+    };
+    for ((work, answer), number) in buffers.into_iter().zip(numbers) {
+        (request.work, request.answer, request.number) = (work, answer, number);
         bench.run(&request, outcome.clone())?;
     }
     Ok(())
@@ -277,16 +288,19 @@ fn union_of(children: u8, moved: u8) -> Vec<u8> {
 #[cfg(test)]
 mod tests {
     use super::*;
-    use oracle::{operations, read};
+    use oracle::operations::{self, Mode};
+    use oracle::read;
 
     #[test]
     fn the_trains_are_the_trials() {
-        let numbers = TRAINS.map(|text| {
-            let merged = operations::merge(&hex(text));
-            merged.map_or_else(|refusal| (refusal.number, refusal.place), |_| (0, 0))
-        });
+        let numbers = |mode| {
+            TRAINS.map(|text| {
+                let merged = operations::merge(&hex(text), mode);
+                merged.map_or_else(|refusal| (refusal.number, refusal.place), |_| (0, 0))
+            })
+        };
         let accepted = (0, 0);
-        let expected = [
+        let mut expected = [
             accepted,
             accepted,
             accepted,
@@ -297,7 +311,10 @@ mod tests {
             accepted,
             (22, 1),
         ];
-        assert_eq!(numbers, expected);
+        assert_eq!(numbers(Mode::AsTheRust), expected);
+        // P5
+        expected[4] = accepted;
+        assert_eq!(numbers(Mode::ParkedFirst), expected);
     }
 
     #[test]

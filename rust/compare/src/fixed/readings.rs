@@ -10,7 +10,7 @@ use std::sync::Arc;
 /// The examples of this operation.
 pub(super) fn requests(operation: Operation) -> Vec<Inputs> {
     match operation {
-        Operation::IsNested | Operation::FlattenedFields => alone(nested()),
+        Operation::IsNested | Operation::FlattenedFields => alone(operation, nested()),
         Operation::IndexOf => names(),
         Operation::Project | Operation::ProjectStrict => lists(),
         Operation::Filter => masks(),
@@ -19,14 +19,17 @@ pub(super) fn requests(operation: Operation) -> Vec<Inputs> {
         Operation::TryFromFields => [0, 3, 128, 129, 65_535]
             .map(|count| (Vec::new(), Vec::new(), count))
             .to_vec(),
-        Operation::Merge => alone(trains()),
+        Operation::Merge | Operation::MergeParkedFirst => alone(operation, trains()),
         Operation::Equal | Operation::EqualsDatatype | Operation::Contains => pairs(),
     }
 }
 
-/// Requests that take no more than these bytes.
-fn alone(all: Vec<Vec<u8>>) -> Vec<Inputs> {
-    all.into_iter().map(|one| (one, Vec::new(), 0)).collect()
+/// Requests that take these bytes, and no more but the usual number.
+pub(super) fn alone(operation: Operation, all: Vec<Vec<u8>>) -> Vec<Inputs> {
+    let number = operation.usual_number();
+    all.into_iter()
+        .map(|one| (one, Vec::new(), number))
+        .collect()
 }
 
 /// Module 2: dictionaries take the verdict of the value, run ends that of the values.
@@ -349,7 +352,7 @@ mod tests {
 
     #[test]
     fn the_examples_give_the_numbers_that_the_readings_name() {
-        let expected: [(Operation, &[u8]); 8] = [
+        let expected: [(Operation, &[u8]); 9] = [
             (Operation::IndexOf, &[0, 2, 13]),
             (Operation::Project, &[0, 10, 17, 30]),
             (Operation::ProjectStrict, &[0, 10, 11, 17]),
@@ -358,6 +361,10 @@ mod tests {
             (Operation::TryNew, &[0, 6, 7, 14, 15]),
             (Operation::TryFromFields, &[0, 16]),
             (Operation::Merge, &[0, 20, 21, 22, 23, 24, 25, 30]),
+            (
+                Operation::MergeParkedFirst,
+                &[0, 20, 21, 22, 23, 24, 25, 30],
+            ),
         ];
         for (operation, expected) in expected {
             assert_eq!(numbers(operation), expected, "{operation:?}");

@@ -41,9 +41,9 @@ fn with_text(operation: Operation, text: &[u8]) -> Vec<Inputs> {
             .iter()
             .map(|sheet| (sheet.clone(), sheet.clone(), 0))
             .collect(),
-        Takes::Train => sheets
+        Takes::TrainAndMode => sheets
             .iter()
-            .map(|sheet| (sheet.repeat(2), Vec::new(), 0))
+            .map(|sheet| (sheet.repeat(2), Vec::new(), operation.usual_number()))
             .collect(),
         Takes::SheetAndList => with(&[0, 0], 0),
         Takes::SheetAndMask => with(&[1], 0),

@@ -11,10 +11,8 @@ use crate::request::{Operation, Request, Takes};
 use oracle::operations::Outcome;
 use oracle::random::Random;
 
-/// One train in so many begins with a parked log, each kind of them in its turn: a batch has
-/// them all.
-const PARKED: usize = 20;
-const _: () = assert!(PARKED * parked::KINDS <= crate::jobs::JOB);
+/// A batch of merges begins with parked logs, one train of each kind.
+const _: () = assert!(parked::KINDS < crate::jobs::JOB);
 
 /// A random request of this operation, the so-manyth of its batch, with what the oracle's
 /// operation gives on it, and buffers of lengths that suit it.
@@ -23,18 +21,13 @@ pub(crate) fn request(
     operation: Operation,
     turn: usize,
 ) -> (Request, Outcome) {
-    let mut request = match operation.takes() {
-        Takes::Train if turn.is_multiple_of(PARKED) => {
-            Request::new(operation, parked::train(random, turn / PARKED))
-        }
-        _ => inputs(random, operation),
-    };
+    let mut request = inputs(random, operation, turn);
     let outcome = request.outcome();
     lend(random, &mut request, &outcome);
     (request, outcome)
 }
 
-fn inputs(random: &mut Random, operation: Operation) -> Request {
+fn inputs(random: &mut Random, operation: Operation, turn: usize) -> Request {
     match operation.takes() {
         Takes::Sheet => Request::new(operation, source::sheet(random)),
         Takes::TwoSheets => {
@@ -62,7 +55,16 @@ fn inputs(random: &mut Random, operation: Operation) -> Request {
             number: parameters::count(random),
             ..Request::new(operation, Vec::new())
         },
-        Takes::Train => Request::new(operation, trains::train(random)),
+        Takes::TrainAndMode => {
+            let train = match turn < parked::KINDS {
+                true => parked::train(random, turn),
+                false => trains::train(random),
+            };
+            Request {
+                number: parameters::mode(random, operation),
+                ..Request::new(operation, train)
+            }
+        }
         Takes::SheetAndList => {
             let (sheet, schema) = source::sheet_and_schema(random);
             Request {
@@ -155,7 +157,7 @@ mod tests {
         let mut random = Random::new(11);
         let (mut near, mut long) = (Vec::new(), 0);
         for _ in 0..requests {
-            match request(&mut random, operation, 1).1 {
+            match request(&mut random, operation, parked::KINDS).1 {
                 Ok(answer) if answer.len() > 65_500 => near.push(answer.len()),
                 Err(refusal) if refusal.number == 30 => long += 1,
                 _ => {}
@@ -166,12 +168,31 @@ mod tests {
 
     #[test]
     fn answers_come_near_the_limit_from_both_sides() {
-        for operation in [Operation::Merge, Operation::Project, Operation::Normalize] {
-            let (near, long) = near_the_limit(operation, 8000);
+        for operation in [
+            Operation::Merge,
+            Operation::MergeParkedFirst,
+            Operation::Project,
+            Operation::Normalize,
+        ] {
+            let (near, long) = near_the_limit(operation, 16_000);
             assert!(near.len() > 2, "{operation:?} {near:?}");
             assert!(near.iter().any(|&length| length > 65_530), "{near:?}");
             assert!(long > 5, "{operation:?} {long}");
         }
+    }
+
+    #[test]
+    fn the_modes_are_those_of_their_operations() {
+        let mut random = Random::new(12);
+        let mut modes = [Operation::Merge, Operation::MergeParkedFirst].map(|operation| {
+            let mode = |turn| request(&mut random, operation, turn).0.mode();
+            (0..400).map(mode).collect::<Vec<u8>>()
+        });
+        modes.iter_mut().for_each(|modes| modes.sort_unstable());
+        let ones = modes[1].iter().filter(|&&mode| mode == 1).count();
+        assert!(ones > 200, "{ones}");
+        modes.iter_mut().for_each(Vec::dedup);
+        assert_eq!(modes, [vec![0], vec![1, 2, 128, 255]]);
     }
 
     #[test]

@@ -1,5 +1,6 @@
-//! Names, ids, counts, index lists, masks, separators and levels.
+//! Names, ids, counts, index lists, masks, separators, levels and modes.
 
+use crate::request::{Operation, PARKED_FIRST};
 use arrow_schema::Schema;
 use oracle::limits::SHEET_BYTES;
 use oracle::operations::{self, Outcome, leaf_count};
@@ -142,4 +143,12 @@ pub(super) fn separator(random: &mut Random, sheet: &[u8], level: u16) -> Vec<u8
 /// A level: no limit, a small one, or a large one.
 pub(super) fn level(random: &mut Random) -> u16 {
     random.pick(&[0, 0, 1, 2, 3, 31, u16::MAX])
+}
+
+/// The mode of a merge: now and then another number of the mode than the usual one.
+pub(super) fn mode(random: &mut Random, operation: Operation) -> u16 {
+    match operation {
+        Operation::MergeParkedFirst if random.once_in(4) => random.pick(&PARKED_FIRST),
+        _ => operation.usual_number(),
+    }
 }

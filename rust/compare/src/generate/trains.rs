@@ -4,7 +4,7 @@
 use super::{damage, source, vary};
 use arrow_schema::{DataType, Field, Schema, UnionFields, UnionMode};
 use oracle::limits::{SHEET_BYTES, TRAIN_SHEETS};
-use oracle::operations;
+use oracle::operations::{self, Mode};
 use oracle::random::{self, Random};
 
 /// A train, damaged or not.
@@ -71,7 +71,9 @@ fn filling(random: &mut Random) -> Vec<u8> {
         let second = source::written(&with_column(&other, "m".repeat(bytes)));
         [&first[..], &second].concat()
     };
-    let shortest = operations::merge(&train(1)).map_or(most, |merged| merged.len());
+    // the mode that accepts more, and gives the same where both accept
+    let shortest = operations::merge(&train(1), Mode::ParkedFirst);
+    let shortest = shortest.map_or(most, |merged| merged.len());
     train(1 + most.saturating_sub(shortest))
 }
 

@@ -2,7 +2,7 @@
 
 use arrow_schema::{ArrowError, Schema};
 
-use super::{Outcome, shortest_failing, written};
+use super::{Outcome, parked, shortest_failing, written};
 use crate::number::{
     CLASH_FIELD_METADATA, CLASH_ORDERED, CLASH_SCHEMA_METADATA, CLASH_TYPE, CLASH_UNION_CHILDREN,
     CLASH_UNION_ID,
@@ -10,14 +10,44 @@ use crate::number::{
 use crate::read;
 use crate::refusal::Refusal;
 
-/// `Schema::try_merge`, one call for the whole train. No bytes are a train of no sheets.
-pub fn merge(train: &[u8]) -> Outcome {
+/// The mode of a merge.
+#[derive(Clone, Copy, Debug, PartialEq, Eq)]
+pub enum Mode {
+    /// The Rust's own.
+    AsTheRust,
+    /// Document 02's Item 6: order flags are not compared where either type is Null, and a
+    /// Null that takes a type takes its order flag too.
+    ParkedFirst,
+}
+
+impl From<u8> for Mode {
+    /// The mode that a call is asked for by this number. No number is refused.
+    fn from(number: u8) -> Self {
+        match number {
+            0 => Self::AsTheRust,
+            _ => Self::ParkedFirst,
+        }
+    }
+}
+
+impl Mode {
+    fn try_merge(self, schemas: impl IntoIterator<Item = Schema>) -> Result<Schema, ArrowError> {
+        match self {
+            Self::AsTheRust => Schema::try_merge(schemas),
+            Self::ParkedFirst => parked::try_merge(schemas),
+        }
+    }
+}
+
+/// `Schema::try_merge`, or what stands for it in the mode, one call for the whole train. No
+/// bytes are a train of no sheets.
+pub fn merge(train: &[u8], mode: Mode) -> Outcome {
     let sheets = read::train(train)?;
     let count = sheets.len();
-    match Schema::try_merge(sheets.into_iter().map(|sheet| sheet.schema)) {
+    match mode.try_merge(sheets.into_iter().map(|sheet| sheet.schema)) {
         Ok(merged) => written(&merged),
         Err(error) => {
-            let fails = |sheets: usize| merge_beginning(train, sheets).is_err();
+            let fails = |sheets: usize| merge_beginning(train, sheets, mode).is_err();
             let sheets = shortest_failing(count, fails);
             Err(Refusal::new(clash_number(&error), sheets - 1))
         }
@@ -25,17 +55,21 @@ pub fn merge(train: &[u8]) -> Outcome {
 }
 
 /// Merges the first sheets of a train that reads, read anew.
-fn merge_beginning(train: &[u8], count: usize) -> Result<Schema, ArrowError> {
+fn merge_beginning(train: &[u8], count: usize, mode: Mode) -> Result<Schema, ArrowError> {
     let sheets = read::train(train).expect("the train was read before");
-    Schema::try_merge(sheets.into_iter().take(count).map(|sheet| sheet.schema))
+    mode.try_merge(sheets.into_iter().take(count).map(|sheet| sheet.schema))
 }
 
-/// The clash, by the crate's text.
+/// The number of a clash, by the crate's text.
 ///
 /// Names, keys, values and types stand in the text too, and a name may hold any words. So
 /// only the beginning up to the name and the end behind it are looked at: a type's own text
 /// ends in its name or in a parenthesis.
-fn clash_number(error: &ArrowError) -> u8 {
+///
+/// # Panics
+///
+/// On an error that no merge gives.
+pub fn clash_number(error: &ArrowError) -> u8 {
     match error {
         ArrowError::InvalidArgumentError(text) if text.starts_with("duplicate type id: ") => {
             CLASH_UNION_CHILDREN
@@ -92,15 +126,25 @@ mod tests {
         Schema::new(vec![Field::new(name, data_type, false)])
     }
 
+    const MODES: [Mode; 2] = [Mode::AsTheRust, Mode::ParkedFirst];
+
+    /// A train of these schemas is refused so in both modes.
+    fn refused(schemas: &[Schema], number: u8, place: usize) {
+        for mode in MODES {
+            let merged = merge(&train(schemas), mode);
+            assert_eq!(merged, Err(Refusal::new(number, place)), "{mode:?}");
+        }
+    }
+
     /// The place that a counter in the one whole call gives: the last sheet that it took.
-    fn place_by_counting(train: &[u8]) -> usize {
+    fn place_by_counting(train: &[u8], mode: Mode) -> usize {
         let mut taken = 0;
         let sheets = read::train(train).unwrap();
         let counted = sheets
             .into_iter()
             .map(|sheet| sheet.schema)
             .inspect(|_| taken += 1);
-        assert!(Schema::try_merge(counted).is_err());
+        assert!(mode.try_merge(counted).is_err());
         taken - 1
     }
 
@@ -121,42 +165,38 @@ mod tests {
                     DataType::Timestamp(arrow_schema::TimeUnit::Second, Some(text.into())),
                 ),
             ];
-            assert_eq!(merge(&train(&types)), Err(Refusal::new(CLASH_TYPE, 1)));
+            refused(&types, CLASH_TYPE, 1);
             let pairs = ["1", "2"].map(|value| {
                 let column = Field::new(text, DataType::Int8, false);
                 Schema::new(vec![column.with_metadata([(text, value)])])
             });
-            assert_eq!(
-                merge(&train(&pairs)),
-                Err(Refusal::new(CLASH_FIELD_METADATA, 1))
-            );
+            refused(&pairs, CLASH_FIELD_METADATA, 1);
             let pairs = ["1", "2"].map(|value| Schema::empty().with_metadata([(text, value)]));
-            assert_eq!(
-                merge(&train(&pairs)),
-                Err(Refusal::new(CLASH_SCHEMA_METADATA, 1))
-            );
+            refused(&pairs, CLASH_SCHEMA_METADATA, 1);
             let unions = [0, 1].map(|id| {
                 let child = Field::new(text, DataType::Int8, false);
                 let children = UnionFields::try_new([id], [child]).unwrap();
                 one(text, DataType::Union(children, UnionMode::Dense))
             });
-            assert_eq!(merge(&train(&unions)), Err(Refusal::new(CLASH_UNION_ID, 1)));
+            refused(&unions, CLASH_UNION_ID, 1);
         }
     }
 
     #[test]
     fn the_place_is_the_last_sheet_that_the_whole_call_took() {
-        let mut random = random::Random::new(41);
-        let mut refused = 0;
-        for _ in 0..3000 {
-            let count = 2 + random.below(6);
-            let schemas: Vec<_> = (0..count).map(|_| random::schema(&mut random)).collect();
-            let train = train(&schemas);
-            if let Err(refusal) = merge(&train) {
-                refused += 1;
-                assert_eq!(refusal.place, place_by_counting(&train));
+        for mode in MODES {
+            let mut random = random::Random::new(41);
+            let mut refused = 0;
+            for _ in 0..3000 {
+                let count = 2 + random.below(6);
+                let schemas: Vec<_> = (0..count).map(|_| random::schema(&mut random)).collect();
+                let train = train(&schemas);
+                if let Err(refusal) = merge(&train, mode) {
+                    refused += 1;
+                    assert_eq!(refusal.place, place_by_counting(&train, mode));
+                }
             }
+            assert!(refused > 500, "only {refused} trains clash");
         }
-        assert!(refused > 500, "only {refused} trains clash");
     }
 }

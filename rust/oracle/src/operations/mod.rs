@@ -1,4 +1,5 @@
-//! The operations of document 01, each done by the crate on schemas read anew.
+//! The operations of document 01, each done by the crate on schemas read anew. One mode of
+//! merging is document 02's, and the crate does only its pieces: [`Mode::ParkedFirst`].
 //!
 //! An operation's outcome says nothing of buffers: 32 comes before it, 31 after it
 //! ([`crate::call`]). It reads its sheets, then judges its parameters, then does its work.
@@ -6,11 +7,12 @@
 mod columns;
 mod merge;
 mod pairs;
+mod parked;
 mod shape;
 mod unions;
 
 pub use columns::{index_of, is_nested, project, project_strict};
-pub use merge::merge;
+pub use merge::{Mode, clash_number, merge};
 pub use pairs::{contains, equal, equals_datatype};
 pub use shape::{filter, flattened_fields, leaf_count, normalize};
 pub use unions::{try_from_fields, try_new};

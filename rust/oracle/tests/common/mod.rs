@@ -4,7 +4,7 @@
 use std::sync::Arc;
 
 use arrow_schema::{DataType, Field, Fields, Schema, UnionFields, UnionMode};
-use oracle::operations::Outcome;
+use oracle::operations::{self, Mode, Outcome};
 use oracle::{Refusal, write};
 
 /// The bytes of this hex; spaces are passed over.
@@ -17,6 +17,11 @@ pub(crate) fn hex(text: &str) -> Vec<u8> {
         .chunks(2)
         .map(|pair| 16 * pair[0] + pair[1])
         .collect()
+}
+
+/// The merge of document 01: in the Rust's mode.
+pub(crate) fn merge(train: &[u8]) -> Outcome {
+    operations::merge(train, Mode::AsTheRust)
 }
 
 /// A refusal as an outcome.

@@ -2,9 +2,9 @@
 use Prim.Native.Nat.{ℕ, _≤_}
 use native.Mathlib.Omega.{arith}
 use mathlib.Core.Path.{_≡_, subst}
-use Rattle.merge.specs.declared.Input.{Input}
-use Rattle.merge.specs.declared.Input.the-variants.{Bytes, Failed}
-use Rattle.merge.specs.Input.{Within}
+use Rattle.program.specs.declared.Input.{Input}
+use Rattle.program.specs.declared.Input.the-variants.{Bytes, Failed}
+use Rattle.program.specs.Input.{Within}
 
 pub within-bytes : {r : Input} {n : ℕ} (room : ℕ) → Within r room → r ≡ Bytes n → n ≤ room
 within-bytes room h e = subst (λ r. Within r room) e h

@@ -1,10 +1,10 @@
--- `main`: what was read, and the line, lie in their buffers.
+-- `run`: what was read, and the line, lie in their buffers.
 use borrow.Author.Needs.{needs}
 use mathlib.Core.Path.{sym}
 use lib.Seq.{length-take-le}
-use Rattle.merge.proofs.Inputs.{within-bytes}
-use Rattle.merge.proofs.main.Statement.{statement}
-use Rattle.merge.proofs.main.Tie as tie
+use Rattle.program.proofs.Inputs.{within-bytes}
+use Rattle.program.proofs.run.Statement.{statement}
+use Rattle.program.proofs.run.Tie as tie
 
 array-share-prefix-input : tie.Need-array-share-prefix-input
 array-share-prefix-input c = within-bytes _ (c .before .before .before .before .read-input .ensures) (c .before .end .given .1)
@@ -16,8 +16,8 @@ slice-aggregate-program-line c =
 slice-aggregate-write-all-2 : tie.Need-slice-aggregate-write-all-2
 slice-aggregate-write-all-2 c = sym (length-take-le _ _ (c .before .program-line .ensures .fits))
 
-pub main-spec : {M : Type 1} → statement M
-main-spec =
+pub run-spec : {M : Type 1} → statement M
+run-spec =
     tie.close
     (tie.spec
     (λ c. search needs)

@@ -4,9 +4,9 @@ use native.Mathlib.Omega.{arith}
 use Prim.Native.Nat.{_-_, _≤_}
 use mathlib.Core.Path.{_≡_, refl}
 use lib.ListN.{length}
-use Rattle.merge.proofs.Inputs.{within-bytes, within-more}
-use Rattle.merge.proofs.read_input.Statement.{statement}
-use Rattle.merge.proofs.read_input.Tie as tie
+use Rattle.program.proofs.Inputs.{within-bytes, within-more}
+use Rattle.program.proofs.read_input.Statement.{statement}
+use Rattle.program.proofs.read_input.Tie as tie
 
 abbrev Inv-loop : tie.InvT-loop
 Inv-loop buf₀ end₀ buf end = (end ≤ length buf₀) × (length buf ≡ length buf₀)

@@ -1,7 +1,7 @@
 -- What reading standard input gives.
 use Prim.Native.Nat.{ℕ, _≤_}
-use Rattle.merge.specs.declared.Input.{Input}
-use Rattle.merge.specs.declared.Input.the-variants.{Bytes, Failed}
+use Rattle.program.specs.declared.Input.{Input}
+use Rattle.program.specs.declared.Input.the-variants.{Bytes, Failed}
 
 -- no more bytes were read than there was room for
 abbrev pub Within : Input → ℕ → Type 0

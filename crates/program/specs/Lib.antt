@@ -1,0 +1,2 @@
+-- The definitions that the contracts of `program` cite.
+pub mod Input
