@@ -5,7 +5,10 @@
  * of the answer buffer. The work buffer, at least 4 times the sheets' bytes, is all 0 afterwards,
  * but untouched after 32. Nothing is allocated, and nothing is left to the caller to test.
  *
- * A pointer is never null, also where its length is 0, and no buffer overlaps anything else. */
+ * A pointer is never null, also where its length is 0, and no buffer overlaps anything else.
+ *
+ * A field of a sheet, whatever its type is, may have a dictionary number: bit 4 of its map stands, and behind its
+ * name and metadata, before its type, come eight bytes, a signed number that is not 0, the lowest byte first. */
 #ifndef SHEETS_H
 #define SHEETS_H
 
@@ -22,22 +25,22 @@ uint8_t sheets_is_nested(const uint8_t *sheet, size_t sheet_length,
                          uint8_t *answer, size_t answer_length,
                          size_t *place, size_t *length);
 
-/* Types: one byte, 1 where the columns of two sheets are equal. */
+/* Types: one byte, 1 where the columns of two sheets are equal. Order flags and dictionary numbers do not count. */
 uint8_t sheets_equal(const uint8_t *sheet, size_t sheet_length,
                      const uint8_t *other, size_t other_length,
                      uint8_t *work, size_t work_length,
                      uint8_t *answer, size_t answer_length,
                      size_t *place, size_t *length);
 
-/* Types: one byte, 1 where the columns of two sheets are equal but for names, metadata, order flags and
- * the order of union children. */
+/* Types: one byte, 1 where the columns of two sheets are equal but for names, metadata, order flags, dictionary
+ * numbers and the order of union children. */
 uint8_t sheets_equals_datatype(const uint8_t *sheet, size_t sheet_length,
                                const uint8_t *other, size_t other_length,
                                uint8_t *work, size_t work_length,
                                uint8_t *answer, size_t answer_length,
                                size_t *place, size_t *length);
 
-/* Schemas: one byte, 1 where the first sheet contains the second. */
+/* Schemas: one byte, 1 where the first sheet contains the second. Dictionary numbers do not count. */
 uint8_t sheets_contains(const uint8_t *sheet, size_t sheet_length,
                         const uint8_t *other, size_t other_length,
                         uint8_t *work, size_t work_length,
@@ -67,7 +70,7 @@ uint8_t sheets_try_from_fields(uint16_t count,
 #define SHEETS_PARKED_FIRST 1
 
 /* The merge: one sheet out of a train, its sheets end to end. A clash has the sheet's number, from 0, for its
- * place. */
+ * place. A field has the dictionary number of the first sheet that has the field, or none. */
 uint8_t sheets_merge(const uint8_t *train, size_t train_length,
                      uint8_t *work, size_t work_length,
                      uint8_t *answer, size_t answer_length,
@@ -101,7 +104,8 @@ uint8_t sheets_project_strict(const uint8_t *sheet, size_t sheet_length,
                               size_t *place, size_t *length);
 
 /* Schemas: the sheet with its structs taken apart down to a level (0: no limit), names joined by the
- * separator. */
+ * separator. Its columns have no metadata, no order flag and no dictionary number; what lies inside their types
+ * stays. */
 uint8_t sheets_normalize(const uint8_t *sheet, size_t sheet_length,
                          const uint8_t *separator, size_t separator_length, uint16_t max_level,
                          uint8_t *work, size_t work_length,

@@ -183,12 +183,53 @@ static void merges(void) {
             sheets_merge(BYTES(parked_then_driven), LENT(63, 8), SHEETS_AS_THE_RUST), 0, 32, 0);
 }
 
+/* Dictionary numbers, on v:Int32: 1, -1, a stored 0, and 1 under a map with an unknown bit. */
+static void dictionary_numbers(void) {
+    static const uint8_t one[] = {2, 1, 0, 20, 1, 0, 'v', 1, 0, 0, 0, 0, 0, 0, 0, 4};
+    static const uint8_t minus[] = {2, 1, 0, 20, 1, 0, 'v', 255, 255, 255, 255, 255, 255, 255, 255, 4};
+    static const uint8_t stored_0[] = {2, 1, 0, 20, 1, 0, 'v', 0, 0, 0, 0, 0, 0, 0, 0, 4};
+    static const uint8_t unknown[] = {2, 1, 0, 52, 1, 0, 'v', 1, 0, 0, 0, 0, 0, 0, 0, 4};
+    static const uint8_t taken[] = {2, 1, 0, 21, 1, 0, 'v', 1, 0, 0, 0, 0, 0, 0, 0, 4};
+    static const uint8_t list[] = {0, 0}, dot[] = {'.'};
+    uint8_t train[sizeof one + sizeof minus];
+    memcpy(train, one, sizeof one);
+    memcpy(train + sizeof one, minus, sizeof minus);
+    accepted("merge: the first column's dictionary number stays",
+             sheets_merge(BYTES(train), LENT(128, 16), SHEETS_AS_THE_RUST), 128, BYTES(one));
+    train[sizeof one - 1] = 0;
+    accepted("merge: a Null that takes a type keeps its own",
+             sheets_merge(BYTES(train), LENT(128, 16), SHEETS_PARKED_FIRST), 128, BYTES(taken));
+    memcpy(train, plain, sizeof plain);
+    memcpy(train + sizeof plain, minus, sizeof minus);
+    accepted("merge: a first column without one stays without",
+             sheets_merge(train, sizeof plain + sizeof minus, LENT(96, 16), SHEETS_AS_THE_RUST), 96, BYTES(plain));
+    accepted("equal: another dictionary number",
+             sheets_equal(BYTES(one), BYTES(minus), LENT(128, 1)), 128, BYTES(yes));
+    accepted("equals_datatype: one without a dictionary number",
+             sheets_equals_datatype(BYTES(plain), BYTES(minus), LENT(96, 1)), 96, BYTES(yes));
+    accepted("contains: one with a dictionary number",
+             sheets_contains(BYTES(plain), BYTES(minus), LENT(96, 1)), 96, BYTES(yes));
+    accepted("project_strict: the dictionary number is kept",
+             sheets_project_strict(BYTES(minus), BYTES(list), LENT(64, 16)), 64, BYTES(minus));
+    accepted("filter: the dictionary number is kept",
+             sheets_filter(BYTES(minus), yes, 1, LENT(64, 16)), 64, BYTES(minus));
+    accepted("normalize: the dictionary number is dropped",
+             sheets_normalize(BYTES(minus), BYTES(dot), 0, LENT(64, 16)), 64, BYTES(plain));
+    refused("is_nested: a stored dictionary number of 0, at its first byte",
+            sheets_is_nested(BYTES(stored_0), LENT(64, 1)), 64, 2, 7);
+    refused("is_nested: a dictionary number cut short",
+            sheets_is_nested(one, 14, LENT(56, 1)), 56, 1, 7);
+    refused("is_nested: bit 5 of a field's map is not known",
+            sheets_is_nested(BYTES(unknown), LENT(64, 1)), 64, 2, 3);
+}
+
 int main(void) {
     types();
     unions();
     schemas();
     shapes();
     merges();
+    dictionary_numbers();
     printf("%d passed, %d failed\n", passed, failed);
     return failed == 0 ? 0 : 1;
 }

@@ -75,6 +75,8 @@ check "16,001 bytes, parked log first" "35 0 -" "$parked" < <(long 16001)
 check "./run: the stored example is P3" "0 0 0201000501007604" ./run </dev/null
 check "./run: files, P5" "20 1 -" ./run examples/parked.sheet examples/ordered.sheet </dev/null
 check "./run: files, P5 parked log first" "0 0 02010007010076220218" ./run --parked-first examples/parked.sheet examples/ordered.sheet </dev/null
+check "./run: the first log's dictionary number is kept" "0 0 020100150100760700000000000000220218" ./run examples/numbered.sheet examples/parked.sheet </dev/null
+check "./run: the first log has no dictionary number" "0 0 02010005010076220218" ./run examples/parked.sheet examples/numbered.sheet </dev/null
 check "./run: the stored example, parked log first" "0 0 0201000501007604" ./run --parked-first </dev/null
 check "./run: files of the folder that it is called in" "0 0 0201000501007604" env -C examples ../run driven.sheet parked.sheet </dev/null
 check "./run: standard input, then a file" "0 0 0201000501007604" ./run - examples/driven.sheet <examples/parked.sheet

@@ -9,40 +9,43 @@ use lib.Dec.{eqb}
 use Rattle.model.specs.Bytes.{Bytes, flag}
 use Rattle.model.specs.Tree.{Head, Field, Children}
 use Rattle.model.specs.Tree.Children.{fields, keyAndValue, counted, countedWithIds}
-use Rattle.model.specs.Sheet.{headBytes, fieldBytes, typeBytes}
+use Rattle.model.specs.Sheet.{headMap, frontBytes, headBytes, fieldBytes, typeBytes}
 use Rattle.model.specs.WellFormed.{LaidOut}
 use Rattle.model.specs.Datatype.{containsMetadata}
 use Rattle.model.proofs.Lists.{and-true, beq-eq}
+use Rattle.model.proofs.MapBits.{nullable-bit, order-bit}
 use Rattle.model.proofs.SameBytes.{not-true}
 use Rattle.layout.specs.Kinds.{childrenBy}
 use Rattle.walk.specs.Stands.{Stands, Skips, SkipsType}
 use Rattle.walk.proofs.Standing.{stands-behind, skip-ahead, skip-join}
-use Rattle.walk.proofs.Parts.{Ahead}
+use Rattle.walk.proofs.Parts.{Ahead, front-stands, map-stands}
 use Rattle.datatype.specs.declared.compare.Comparison.{Comparison}
 use Rattle.datatype.specs.Children.{childBytes}
 use Rattle.datatype.specs.Comparisons.{PairsAt, sameHead, containsHead, compareHead}
-use Rattle.datatype.proofs.Encodings.{mapOf, restOf, low-form, order-form, flag-equal, beq-of, heads-low, heads-high, heads-rest}
-use Rattle.datatype.proofs.Texts.{Stretches, behind-first, Heads, sameName, map-is, Contained}
+use Rattle.datatype.proofs.Encodings.{restOf, flag-equal, beq-of, heads-low, heads-high, heads-rest}
+use Rattle.datatype.proofs.Texts.{Stretches, behind-first, Heads, sameName, Contained}
 
 -- Plain equality
 
 module _ {s t : Bytes} {a b map other : ℕ} (e : map ≡ getD s a 0) (f : other ≡ getD t b 0) where
   pub heads-by-low : (map % 2 ≡ other % 2 → ⊥) → Heads sameHead s a t b false
-  heads-by-low n h g st st′ = heads-low h g λ z. n (ap (λ m. m % 2) (map-is e h st) ∙ z ∙ ap (λ m. m % 2) (sym (map-is f g st′)))
+  heads-by-low n h g st st′ = heads-low h g λ z. n (ap (λ m. m % 2) (map-stands e h st) ∙ z ∙ ap (λ m. m % 2) (sym (map-stands f g st′)))
 
-  pub heads-by-high : (map / 4 ≡ other / 4 → ⊥) → Heads sameHead s a t b false
-  heads-by-high n h g st st′ = heads-high h g λ z. n (ap (λ m. m / 4) (map-is e h st) ∙ z ∙ ap (λ m. m / 4) (sym (map-is f g st′)))
+  pub heads-by-high : (map / 4 % 4 ≡ other / 4 % 4 → ⊥) → Heads sameHead s a t b false
+  heads-by-high n h g st st′ = heads-high h g λ z. n (ap (λ m. m / 4 % 4) (map-stands e h st) ∙ z ∙ ap (λ m. m / 4 % 4) (sym (map-stands f g st′)))
 
-  pub heads-by-rest : {from since e′ f′ : ℕ} {r : Bool} → map % 2 ≡ other % 2 → map / 4 ≡ other / 4 → Ahead s a 1 from → Ahead t b 1 since
-      → ((h : Head) → Skips s a (headBytes h) e′) → ((h : Head) → Skips t b (headBytes h) f′) → Stretches s from e′ t since f′ r → Heads sameHead s a t b r
-  unfolding headBytes
+  pub heads-by-rest : {from since e′ f′ : ℕ} {r : Bool} → map % 2 ≡ other % 2 → map / 4 % 4 ≡ other / 4 % 4 → Ahead s a 1 from → Ahead t b 1 since
+      → ((h : Head) → Skips s a (frontBytes h) e′) → ((h : Head) → Skips t b (frontBytes h) f′) → Stretches s from e′ t since f′ r → Heads sameHead s a t b r
+  unfolding frontBytes
   heads-by-rest i j ah ah′ sk sk′ g h k st st′ =
-      let p = skip-ahead (mapOf h ∷ []) refl (ah .1) in
-      let q = skip-ahead (mapOf k ∷ []) refl (ah′ .1) in
-      let m = map-is e h st in
-      let n = map-is f k st′ in
-      g (restOf h) (restOf k) (stands-behind p st) (stands-behind q st′) (behind-first _ (restOf h) p (sk h) st) (behind-first _ (restOf k) q (sk′ k) st′)
-      ∙ heads-rest h k (ap (λ m. m % 2) (sym m) ∙ i ∙ ap (λ m. m % 2) n) (ap (λ m. m / 4) (sym m) ∙ j ∙ ap (λ m. m / 4) n)
+      let p = skip-ahead (headMap h ∷ []) refl (ah .1) in
+      let q = skip-ahead (headMap k ∷ []) refl (ah′ .1) in
+      let m = map-stands e h st in
+      let n = map-stands f k st′ in
+      let u = front-stands h st in
+      let v = front-stands k st′ in
+      g (restOf h) (restOf k) (stands-behind p u) (stands-behind q v) (behind-first _ (restOf h) p (sk h) u) (behind-first _ (restOf k) q (sk′ k) v)
+      ∙ heads-rest h k (ap (λ m. m % 2) (sym m) ∙ i ∙ ap (λ m. m % 2) n) (ap (λ m. m / 4 % 4) (sym m) ∙ j ∙ ap (λ m. m / 4 % 4) n)
 
 -- Containment
 
@@ -76,10 +79,10 @@ nullable-most false false h = refl
 
 module _ {s t : Bytes} {a b map other : ℕ} (e : map ≡ getD s a 0) (f : other ≡ getD t b 0) where
   order-bits : (h g : Head) → Stands s a (headBytes h) → Stands t b (headBytes g) → (map / 2 % 2 ≡ flag 1 (h .dictIsOrdered)) × (other / 2 % 2 ≡ flag 1 (g .dictIsOrdered))
-  order-bits h g st st′ = (ap (λ m. m / 2 % 2) (map-is e h st) ∙ order-form h, ap (λ m. m / 2 % 2) (map-is f g st′) ∙ order-form g)
+  order-bits h g st st′ = (ap (λ m. m / 2 % 2) (map-stands e h st) ∙ order-bit h, ap (λ m. m / 2 % 2) (map-stands f g st′) ∙ order-bit g)
 
   nullable-bits : (h g : Head) → Stands s a (headBytes h) → Stands t b (headBytes g) → (map % 2 ≡ flag 1 (h .nullable)) × (other % 2 ≡ flag 1 (g .nullable))
-  nullable-bits h g st st′ = (ap (λ m. m % 2) (map-is e h st) ∙ low-form h, ap (λ m. m % 2) (map-is f g st′) ∙ low-form g)
+  nullable-bits h g st st′ = (ap (λ m. m % 2) (map-stands e h st) ∙ nullable-bit h, ap (λ m. m % 2) (map-stands f g st′) ∙ nullable-bit g)
 
   pub heads-by-order : (map / 2 % 2 ≡ other / 2 % 2 → ⊥) → Heads containsHead s a t b false
   heads-by-order d h g st st′ =

@@ -9,17 +9,18 @@ use lib.Dec.{eqb}
 use borrow.Author.Tests.{eq-eqb, ne-eqb}
 use Rattle.model.specs.Bytes.{Bytes, Metadata, choose, all, same, sameBytes, getIs, flag, u16}
 use Rattle.model.specs.Tree.{Head, Schema}
-use Rattle.model.specs.Sheet.{each, part, stands, withCount, textBytes, pairBytes, headBytes, sheetBytes}
+use Rattle.model.specs.Sheet.{headMap, frontBytes, each, part, stands, withCount, textBytes, pairBytes, headBytes, sheetBytes}
 use Rattle.model.specs.Datatype.{containsMetadata}
 use Rattle.model.proofs.ByteStrings.{same-bytes-eq, same-bytes-refl}
 use Rattle.model.proofs.SameBytes.{by-truth, not-true, name-split}
 use Rattle.model.proofs.Lists.{every-unit}
+use Rattle.model.proofs.MapBits.{name-bit, name-set, metadata-set}
 use Rattle.walk.specs.Stands.{Stands, Skips}
 use Rattle.walk.proofs.Standing.{first-stands, byte-stands, stands-behind, taken, skip-ahead, skip-join, skip-self}
-use Rattle.walk.proofs.Parts.{Ahead, twoAt, name-bit, metadata-bit, sheet-metadata-bit}
+use Rattle.walk.proofs.Parts.{Ahead, twoAt, front-stands, map-stands, sheet-metadata-bit}
 use Rattle.walk.proofs.Descents.{count-stands, elements-stand}
 use Rattle.datatype.specs.Comparisons.{PairsAt}
-use Rattle.datatype.proofs.Encodings.{mapOf, restOf, name-form}
+use Rattle.datatype.proofs.Encodings.{restOf}
 use Rattle.datatype.proofs.Seeks.{Seeks, seeks-begin, seeks-again, seeks-stop, seeks-done}
 
 -- what `same_stretch` ensures
@@ -60,18 +61,14 @@ Heads test s a t b r = (h g : Head) → Stands s a (headBytes h) → Stands t b 
 abbrev pub sameName : Head → Head → Bool
 sameName h g = sameBytes (h .name) (g .name)
 
-pub map-is : {s : Bytes} {a map : ℕ} → map ≡ getD s a 0 → (h : Head) → Stands s a (headBytes h) → map ≡ mapOf h
-unfolding headBytes
-map-is e h st = e ∙ byte-stands st
-
 -- what stands behind the map
 pub rest-stands : {s : Bytes} {a m : ℕ} → Ahead s a 1 m → (h : Head) → Stands s a (headBytes h) → Stands s m (restOf h)
-unfolding headBytes
-rest-stands u h st = stands-behind (skip-ahead (mapOf h ∷ []) refl (u .1)) st
+unfolding frontBytes
+rest-stands u h st = stands-behind (skip-ahead (headMap h ∷ []) refl (u .1)) (front-stands h st)
 
 -- the bit of the name
 name-bit-is : {s : Bytes} {a map : ℕ} → map ≡ getD s a 0 → (h : Head) → Stands s a (headBytes h) → map / 4 % 2 ≡ flag 1 (stands (h .name))
-name-bit-is e h st = ap (λ m. m / 4 % 2) (map-is e h st) ∙ name-form h
+name-bit-is e h st = ap (λ m. m / 4 % 2) (map-stands e h st) ∙ name-bit h
 
 module _ {s t : Bytes} {a b map other : ℕ} (e : map ≡ getD s a 0) (f : other ≡ getD t b 0) where
   pub names-bits : (map / 4 % 2 ≡ other / 4 % 2 → ⊥) → Heads sameName s a t b false
@@ -107,7 +104,7 @@ module _ {s : Bytes} {a map from end : ℕ} (e : map ≡ getD s a 0) (u : Ahead 
   name-ends : (h : Head) → Stands s a (headBytes h) → (end ≡ from + length (part textBytes (h .name))) × Stands s from (part textBytes (h .name))
   name-ends h st =
       let w = first-stands (part textBytes (h .name)) _ (rest-stands u h st) in
-      let b = ap (λ m. eqb (m / 4 % 2) 1) (map-is e h st) ∙ name-bit (h .nullable) (h .dictIsOrdered) (stands (h .name)) (stands (h .metadata)) in
+      let b = ap (λ m. eqb (m / 4 % 2) 1) (map-stands e h st) ∙ name-set h in
       (p (h .name) (sym b) .behind w, w)
 
   pub name-before : {r : Bytes} → end < from → NameOf s a r
@@ -131,12 +128,12 @@ both-named bit name k z (c ∷ x) (d ∷ n) b i = refl
 module _ {s : Bytes} {a : ℕ} {name : Bytes} where
   -- there is no room for the name
   pub name-long : length s ≤ a + length name → HasName s a name false
-  unfolding headBytes
+  unfolding frontBytes
   name-long k h n st i =
       not-true _ λ j. omega (
         arith,
         k,
-        st .inside,
+        front-stands h st .inside,
         ap length i,
         ap (λ z. length (part textBytes z)) (same-bytes-eq (h .name) n j),
         length-append (part textBytes (h .name)) (part (withCount pairBytes) (h .metadata)),
@@ -204,9 +201,9 @@ pub head-pairs : {s : Bytes} {place map name first n at : ℕ} → map ≡ getD 
     → ((x : Bytes) → stands x ≡ eqb (map / 4 % 2) 1 → Skips s name (part textBytes x) first) → PairsIf s first (eqb (map / 8 % 2) 1) n at
     → (h : Head) → Stands s place (headBytes h) → PairsAt s (h .metadata) n at
 head-pairs {map = map} e u p q h st =
-    let w = map-is e h st in
-    q (h .metadata) (sym (ap (λ m. eqb (m / 8 % 2) 1) w ∙ metadata-bit (h .nullable) (h .dictIsOrdered) (stands (h .name)) (stands (h .metadata))))
-    (stands-behind (p (h .name) (sym (ap (λ m. eqb (m / 4 % 2) 1) w ∙ name-bit (h .nullable) (h .dictIsOrdered) (stands (h .name)) (stands (h .metadata))))) (rest-stands u h st))
+    let w = map-stands e h st in
+    q (h .metadata) (sym (ap (λ m. eqb (m / 8 % 2) 1) w ∙ metadata-set h))
+    (stands-behind (p (h .name) (sym (ap (λ m. eqb (m / 4 % 2) 1) w ∙ name-set h))) (rest-stands u h st))
 
 pub sheet-pairs : {s : Bytes} {place map first n at : ℕ} → map ≡ getD s place 0 → Ahead s place 1 first → PairsIf s first (eqb (map % 2) 1) n at
     → (x : Schema) → Stands s place (sheetBytes x) → PairsAt s (x .metadata) n at

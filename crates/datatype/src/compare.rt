@@ -31,7 +31,7 @@ const UNION: usize = 33;
 
 const RUN_END_ENCODED: usize = 40;
 
-// Whether two heads are equal but for the order flag. Of the maps every other bit counts.
+// Whether two heads are equal but for the order flag and the dictionary number. Of the maps the bits of nullable, name and metadata count.
 fn same_head(s: &[u8], a: usize, t: &[u8], b: usize) -> bool
     ensures { λ r. ⌜ ((h g : Head) → Stands (now (s .entry)) a (headBytes h) → Stands (now (t .entry)) b (headBytes g) → r ≡ sameHead h g) ⌝ }
 {
@@ -40,7 +40,7 @@ fn same_head(s: &[u8], a: usize, t: &[u8], b: usize) -> bool
     if map % 2 != other % 2 {
         return false;
     }
-    if map / 4 != other / 4 {
+    if map / 4 % 4 != other / 4 % 4 {
         return false;
     }
     let from = walk::ahead(s, a, 1);
@@ -48,10 +48,10 @@ fn same_head(s: &[u8], a: usize, t: &[u8], b: usize) -> bool
     same_stretch(
         s,
         from,
-        walk::skip_head(s, a),
+        walk::skip_front(s, a),
         t,
         since,
-        walk::skip_head(t, b),
+        walk::skip_front(t, b),
     )
 }
 

@@ -10,7 +10,7 @@ use borrow.Author.Tests.{eq-eqb, ne-eqb}
 use Rattle.model.specs.Numbers.{maxSheetBytes}
 use Rattle.model.specs.Bytes.{Bytes}
 use Rattle.model.specs.Tree.{Head, Field}
-use Rattle.model.specs.Sheet.{stands, headBytes, fieldBytes, typeBytes}
+use Rattle.model.specs.Sheet.{frontBytes, stands, headBytes, fieldBytes, typeBytes}
 use Rattle.model.proofs.WellFormed.{type-laid-out}
 use Rattle.buffer.specs.Puts.{Puts}
 use Rattle.buffer.proofs.Puts.{puts-join}
@@ -39,7 +39,7 @@ entry-puts {s} {w} levels {place} head a i skip own type l k y f h e st =
     (type-laid-out l (e .own .head .dictIsOrdered) (e .own .dataType) (e .wellFormed .dataType)))
 
 field-long : (l : ℕ) (f : Field l) → 0 < length (fieldBytes (typeBytes l) f)
-unfolding fieldBytes headBytes
+unfolding fieldBytes frontBytes headBytes
 field-long l f = omega arith
 
 -- The loops over the entries of a row

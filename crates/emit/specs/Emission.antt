@@ -9,7 +9,7 @@ use lib.Dec.{eqb}
 use Rattle.model.specs.Numbers.{maxLevels}
 use Rattle.model.specs.Bytes.{Bytes, Metadata, Every, flag}
 use Rattle.model.specs.Tree.{Head, DataType, Field}
-use Rattle.model.specs.Sheet.{each, withCount, part, stands, textBytes, pairBytes, headBytes, fieldBytes, typeBytes, columnBytes}
+use Rattle.model.specs.Sheet.{dictIdBytes, dictIdStands, each, withCount, part, stands, textBytes, pairBytes, headBytes, fieldBytes, typeBytes, columnBytes}
 use Rattle.model.specs.WellFormed.{LaidOut, Whole}
 use Rattle.buffer.specs.Puts.{Puts}
 use Rattle.walk.specs.Stands.{Stands, memberBytes}
@@ -50,10 +50,10 @@ PutsUnion s w mode place levels d p d′ r =
 
 -- a head that is nullable and ordered as an entry's flags say
 abbrev pub flaggedBy : Head → ℕ → Head
-flaggedBy h flags = record { typeId = h .typeId; nullable = eqb (flags % 2) 1; dictIsOrdered = eqb (flags / 2 % 2) 1; name = h .name; metadata = h .metadata }
+flaggedBy h flags = record { typeId = h .typeId; nullable = eqb (flags % 2) 1; dictIsOrdered = eqb (flags / 2 % 2) 1; name = h .name; metadata = h .metadata; dictId = h .dictId }
 
--- of the head that stands at `first` of the train: all but whether it is nullable and ordered, which the flags say; and the map and the
--- name alone, the map saying that there is metadata or not
+-- of the head that stands at `first` of the train: all but whether it is nullable and ordered, which the flags say; the map and the name
+-- alone, the map saying that there is metadata or not; and the dictionary number alone
 
 abbrev pub PutsRawHead : (s : Bytes) (first flags : ℕ) (d : Bytes) (p : ℕ) (d′ : Bytes) (r : ℕ) → Type 0
 PutsRawHead s first flags d p d′ r = (h : Head) → Stands s first (headBytes h) → Puts (headBytes (flaggedBy h flags)) d p d′ r
@@ -61,7 +61,10 @@ PutsRawHead s first flags d p d′ r = (h : Head) → Stands s first (headBytes 
 abbrev pub PutsName : (s : Bytes) (first flags : ℕ) (metadata : Bool) (d : Bytes) (p : ℕ) (d′ : Bytes) (r : ℕ) → Type 0
 PutsName s first flags metadata d p d′ r =
     (h : Head) → Stands s first (headBytes h)
-    → Puts ((flag 1 (eqb (flags % 2) 1) + flag 2 (eqb (flags / 2 % 2) 1) + flag 4 (stands (h .name)) + flag 8 metadata) ∷ part textBytes (h .name)) d p d′ r
+    → Puts ((flag 1 (eqb (flags % 2) 1) + flag 2 (eqb (flags / 2 % 2) 1) + flag 4 (stands (h .name)) + flag 8 metadata + flag 16 (dictIdStands (h .dictId))) ∷ part textBytes (h .name)) d p d′ r
+
+abbrev pub PutsDictId : (s : Bytes) (first : ℕ) (d : Bytes) (p : ℕ) (d′ : Bytes) (r : ℕ) → Type 0
+PutsDictId s first d p d′ r = (h : Head) → Stands s first (headBytes h) → Puts (dictIdBytes (h .dictId)) d p d′ r
 
 abbrev pub PutsHead : (s w : Bytes) (place : ℕ) (d : Bytes) (p : ℕ) (d′ : Bytes) (r : ℕ) → Type 0
 PutsHead s w place d p d′ r = (l k : ℕ) (y : Bytes) (f : Field l) → SpellField l s k y f → Stands w place y → Puts (headBytes (f .head)) d p d′ r

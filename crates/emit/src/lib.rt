@@ -14,7 +14,7 @@ ghost use Rattle.buffer.specs.Puts.{Puts};
 ghost use Rattle.walk.specs.Stands.{Stands, memberBytes};
 ghost use Rattle.table.specs.Table.{SpellSchema};
 ghost use Rattle.emit.specs.Survivor.{IsFrontType, IsSurvivor};
-ghost use Rattle.emit.specs.Emission.{HasPlaces, CountsPlaces, PutsPairs, PutsMetadata, PutsMembers, PutsUnion, PutsRawHead, PutsName, PutsHead, PutsSurvivor, PutsType, PutsEntry, HasEntries, CountsEntries, PutsEntries, PutsRow, PutsColumns};
+ghost use Rattle.emit.specs.Emission.{HasPlaces, CountsPlaces, PutsPairs, PutsMetadata, PutsMembers, PutsUnion, PutsRawHead, PutsDictId, PutsName, PutsHead, PutsSurvivor, PutsType, PutsEntry, HasEntries, CountsEntries, PutsEntries, PutsRow, PutsColumns};
 
 // The code of the type that gives way.
 const NULL: usize = 0;
@@ -111,13 +111,26 @@ fn put_metadata(s: &[u8], w: &[u8], at: usize, dst: &mut [u8], pos: usize) -> us
 fn put_raw_head(s: &[u8], first: usize, flags: usize, dst: &mut [u8], pos: usize) -> usize
     ensures { λ r. ⌜ PutsRawHead (now (s .entry)) first flags (now (dst .entry)) pos (now (dst .exit)) r ⌝ }
 {
-    let map = flags % 4 + walk::byte(s, first) / 4 % 4 * 4;
+    let map = flags % 4 + walk::byte(s, first) / 4 % 8 * 4;
     let next = buffer::put_one(dst, pos, map as u8);
     walk::put_part(
         dst,
         next,
         s,
         walk::ahead(s, first, 1),
+        walk::skip_head(s, first),
+    )
+}
+
+// The dictionary number of a field of the train.
+fn put_dict_id(s: &[u8], first: usize, dst: &mut [u8], pos: usize) -> usize
+    ensures { λ r. ⌜ PutsDictId (now (s .entry)) first (now (dst .entry)) pos (now (dst .exit)) r ⌝ }
+{
+    walk::put_part(
+        dst,
+        pos,
+        s,
+        walk::skip_front(s, first),
         walk::skip_head(s, first),
     )
 }
@@ -136,7 +149,7 @@ fn put_name(
     let map = walk::byte(s, first);
     let name = walk::ahead(s, first, 1);
     let end = walk::skip_text_if(s, name, map / 4 % 2 == 1);
-    let own = flags % 4 + map / 4 % 2 * 4 + flag(8, metadata);
+    let own = flags % 4 + map / 4 % 2 * 4 + flag(8, metadata) + map / 16 % 2 * 16;
     let next = buffer::put_one(dst, pos, own as u8);
     walk::put_part(dst, next, s, name, end)
 }
@@ -150,7 +163,8 @@ fn put_head(s: &[u8], w: &[u8], at: usize, dst: &mut [u8], pos: usize) -> usize
     if flags / 4 == 1 {
         let pairs = walk::ahead(w, at, 4);
         let next = put_name(s, first, flags, has_places(w, pairs), dst, pos);
-        return put_metadata(s, w, pairs, dst, next);
+        let end = put_metadata(s, w, pairs, dst, next);
+        return put_dict_id(s, first, dst, end);
     }
     put_raw_head(s, first, flags, dst, pos)
 }

@@ -8,7 +8,7 @@ use lib.ListN.{length, length-append}
 use Rattle.model.specs.Numbers.{orderedClash, fieldMetadataClash}
 use Rattle.model.specs.Bytes.{Bytes, Metadata}
 use Rattle.model.specs.Tree.{Head, DataType, Field, withDataType}
-use Rattle.model.specs.Sheet.{stands, part, withCount, pairBytes, textBytes, headBytes, fieldBytes, typeBytes}
+use Rattle.model.specs.Sheet.{frontBytes, dictIdBytes, stands, part, withCount, pairBytes, textBytes, headBytes, fieldBytes, typeBytes}
 use Rattle.model.specs.Merge as model
 use Rattle.model.specs.Merge.{_>>=_, done, clash, need, mergeMetadata, ordersAgree, mergeField, mergeType, isNull}
 use Rattle.model.proofs.Modes.{merged-order}
@@ -48,6 +48,7 @@ retyped l e j v t more p h = record {
   wellFormed = e .wellFormed;
   name = e .name;
   dictIsOrdered = e .dictIsOrdered;
+  dictId = e .dictId;
   typeId = e .typeId;
   nullable = e .nullable;
   metadata = e .metadata;
@@ -57,9 +58,9 @@ retyped l e j v t more p h = record {
 
 -- the bytes of a field: its metadata and its type are parts of them
 sizes : (l : ℕ) (g : Field l) → length (part (withCount pairBytes) (g .head .metadata)) + length (typeBytes l (g .dataType)) ≤ length (fieldBytes (typeBytes l) g)
-unfolding fieldBytes headBytes
+unfolding fieldBytes frontBytes headBytes
 sizes l g =
-    omega (arith, length-append (headBytes (g .head)) (typeBytes l (g .dataType)), length-append (part textBytes (g .head .name)) (part (withCount pairBytes) (g .head .metadata)))
+    omega (arith, length-append (frontBytes (g .head)) (dictIdBytes (g .head .dictId)), length-append (headBytes (g .head)) (typeBytes l (g .dataType)), length-append (part textBytes (g .head .name)) (part (withCount pairBytes) (g .head .metadata)))
 
 -- in either mode
 module _ (parked : Bool) where

@@ -12,7 +12,7 @@ use Rattle.model.specs.Sheet.{fieldBytes, typeBytes}
 use Rattle.model.specs.Merge.{isNull}
 use Rattle.walk.specs.Stands.{Stands, Skips}
 use Rattle.walk.proofs.Standing.{first-stands, second-stands}
-use Rattle.walk.proofs.Parts.{flag-one, is-one}
+use Rattle.model.proofs.MapBits.{flag-one, is-one}
 use Rattle.walk.proofs.Descents.{code-stands}
 use Rattle.table.specs.Held.{Held}
 use Rattle.table.specs.Table.{u24, SpellField, SpellType, SpellMetadata}
@@ -80,6 +80,7 @@ reflagged l {s} {f = f} e n b o i =
       wellFormed = e .wellFormed;
       name = e .name;
       dictIsOrdered = is-one (n / 2 % 2) o even;
+      dictId = e .dictId;
       typeId = e .typeId;
       nullable = is-one (n % 2) b odd;
       metadata = subst (λ m. SpellMetadata s (e .metadataRoom) (eqb m 1) (e .metadataBytes) (e .own .head .metadata) (f .head .metadata)) (sym quarter) (e .metadata);

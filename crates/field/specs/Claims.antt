@@ -57,7 +57,7 @@ pub record Puts (parked : Bool) (levels : ℕ) (s w : Bytes) (used row hint q : 
 
 -- nullable and ordered or not
 abbrev pub withFlags : {T : Type 0} → FieldOver T → (nullable ordered : Bool) → FieldOver T
-withFlags f n o = record { head = record { typeId = f .head .typeId; nullable = n; dictIsOrdered = o; name = f .head .name; metadata = f .head .metadata }; dataType = f .dataType }
+withFlags f n o = record { head = record { typeId = f .head .typeId; nullable = n; dictIsOrdered = o; name = f .head .name; metadata = f .head .metadata; dictId = f .head .dictId }; dataType = f .dataType }
 
 -- of two fields that are merged
 abbrev pub bothFlags : (l : ℕ) → Field l → Field l → Field l

@@ -12,7 +12,7 @@ use borrow.Author.Tests.{eqb-true}
 use Rattle.model.specs.Numbers.{maxSheetBytes}
 use Rattle.model.specs.Bytes.{Bytes, choose}
 use Rattle.model.specs.Tree.{Head, FieldOver, DataType, Field}
-use Rattle.model.specs.Sheet.{each, part, headBytes, fieldBytes, typeBytes}
+use Rattle.model.specs.Sheet.{frontBytes, each, part, headBytes, fieldBytes, typeBytes}
 use Rattle.model.specs.Filter.{Filtered, leaf, nested, inside, filterLeaf, filterTo, filterField, filterType, fieldLeafCount}
 use Rattle.model.proofs.Gives.{choose-true, choose-false}
 use Rattle.walk.specs.Stands.{Stands, Skips, SkipsType}
@@ -37,7 +37,7 @@ type-some zero t = absurd t
 type-some (suc l) t = omega arith
 
 pub field-some : {T : Type 0} (f : T → Bytes) (k : FieldOver T) → 1 ≤ length (fieldBytes f k)
-unfolding fieldBytes headBytes
+unfolding fieldBytes frontBytes headBytes
 field-some f k = omega arith
 
 -- What is kept of a field is none, or one under the same head

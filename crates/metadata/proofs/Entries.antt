@@ -66,6 +66,7 @@ module _ (l : ℕ) {s : Bytes} {k : ℕ} {y : Bytes} {f : Field l} (e : SpellFie
     wellFormed = e .wellFormed;
     name = e .name;
     dictIsOrdered = let h : flags / 2 % 2 ≡ e .flags / 2 % 2 = omega (arith, bit) in ap (λ n. eqb n 1) h ∙ e .dictIsOrdered;
+    dictId = e .dictId;
     typeId = e .typeId;
     nullable = let h : flags % 2 ≡ e .flags % 2 = omega (arith, bit) in ap (λ n. eqb n 1) h ∙ e .nullable;
     metadata = metadata;

@@ -11,7 +11,7 @@ use Rattle.table.specs.Table.{SpellField}
 -- a field with other metadata
 abbrev pub withMetadata : {T : Type 0} → FieldOver T → Metadata → FieldOver T
 withMetadata f m = record {
-  head = record { typeId = f .head .typeId; nullable = f .head .nullable; dictIsOrdered = f .head .dictIsOrdered; name = f .head .name; metadata = m };
+  head = record { typeId = f .head .typeId; nullable = f .head .nullable; dictIsOrdered = f .head .dictIsOrdered; name = f .head .name; metadata = m; dictId = f .head .dictId };
   dataType = f .dataType;
 }
 

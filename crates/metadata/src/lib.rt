@@ -135,10 +135,10 @@ fn same_metadata(s: &[u8], a: usize, b: usize) -> bool
     same_stretch(
         s,
         from,
-        walk::skip_head(s, a),
+        walk::skip_front(s, a),
         s,
         since,
-        walk::skip_head(s, b),
+        walk::skip_front(s, b),
     )
 }
 

@@ -72,7 +72,8 @@ sheet s {x} b r n =
     }
 
 -- An instance in each mode: n:Null, s:Struct{a:Int8}, l:List(i:Null), g:LargeList(i:Null), u:Union{0 x:Int8}, then
--- n:T, s:Struct{b:Int8}, l:List(i:T), g:LargeList(i:T), u:Union{1 y:Int8}, where T is Int8 or, parked log first, an ordered dictionary
+-- n:T, s:Struct{b:Int8}, l:List(i:T), g:LargeList(i:T), u:Union{1 y:Int8}, where T is Int8 or, parked log first, an ordered dictionary.
+-- The first n has a dictionary number.
 
 abbrev columns : Bytes → Bytes → Bytes → Bytes → Bytes → Bytes
 columns n s l g u = 0x02 ∷ 5 ∷ 0 ∷ n ++ (sheets.field 0x73 s ++ (sheets.field 0x6C l ++ (sheets.field 0x67 g ++ sheets.field 0x75 u)))
@@ -85,7 +86,7 @@ i = 0x69
 
 abbrev before : Bytes
 before =
-    columns (sheets.field 0x6E sheets.null) (sheets.struct 1 (sheets.field sheets.a sheets.int8)) (sheets.list (sheets.field i sheets.null))
+    columns (sheets.numbered 0x6E 7 sheets.null) (sheets.struct 1 (sheets.field sheets.a sheets.int8)) (sheets.list (sheets.field i sheets.null))
     (largeListOf (sheets.field i sheets.null)) (sheets.union 0 1 (0 ∷ sheets.field sheets.x sheets.int8))
 
 -- a field of T, and what a Null becomes that it is merged into
@@ -97,6 +98,11 @@ abbrev taken : Bool → ℕ → Bytes
 taken false name = sheets.nullable name sheets.int8
 taken true name = sheets.nullableOrdered name sheets.p5
 
+-- the first n then, with its own dictionary number
+abbrev takenNumbered : Bool → ℕ → Bytes
+takenNumbered false name = sheets.nullableNumbered name 7 sheets.int8
+takenNumbered true name = sheets.nullableOrderedNumbered name 7 sheets.p5
+
 abbrev after : Bool → Bytes
 after parked =
     columns (typed parked 0x6E) (sheets.struct 1 (sheets.field sheets.b sheets.int8)) (sheets.list (typed parked i))
@@ -105,7 +111,7 @@ after parked =
 -- what both give: n nullable, a child more in s, the children of l and g nullable, a child more in u
 abbrev both : Bool → Bytes
 both parked =
-    columns (taken parked 0x6E) (sheets.struct 2 (sheets.field sheets.a sheets.int8 ++ sheets.field sheets.b sheets.int8))
+    columns (takenNumbered parked 0x6E) (sheets.struct 2 (sheets.field sheets.a sheets.int8 ++ sheets.field sheets.b sheets.int8))
     (sheets.list (taken parked i)) (largeListOf (taken parked i))
     (sheets.union 0 2 ((0 ∷ sheets.field sheets.x sheets.int8) ++ (1 ∷ sheets.field sheets.y sheets.int8)))
 

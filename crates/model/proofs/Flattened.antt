@@ -13,7 +13,7 @@ use borrow.Author.Tests.{eqb-true}
 use Rattle.model.specs.Numbers.{maxLevels}
 use Rattle.model.specs.Bytes.{Bytes, choose, u16, among}
 use Rattle.model.specs.Tree.{FieldOver, DataType, Field, Schema, Struct, Union, Dictionary, RunEndEncoded, Children, fields, keyAndValue, counted, countedWithIds, Layout, leaf, table, layout}
-use Rattle.model.specs.Sheet.{each, withCount, part, pairBytes, headBytes, fieldBytes, childrenBytes, typeBytes, columnBytes, sheetBytes}
+use Rattle.model.specs.Sheet.{frontBytes, each, withCount, part, pairBytes, headBytes, fieldBytes, childrenBytes, typeBytes, columnBytes, sheetBytes}
 use Rattle.model.specs.Schema.{join, eachAt, afterFirst, fieldFields, childFields, typeFields, flattenedFields}
 
 -- The fields in the order of `Schema::flattened_fields`, each by its own bytes
@@ -197,7 +197,7 @@ module _ {A : Type 0} (write : A → Bytes) (flat : A → List Bytes) (half : (x
 
 module _ {T : Type 0} (write : T → Bytes) (flat : T → List Bytes) (half : (t : T) → 2 * length (flat t) < length (write t)) where
   field-half : (f : FieldOver T) → 2 * length (flatField write flat f) ≤ length (fieldBytes write f)
-  unfolding flatField fieldBytes headBytes
+  unfolding flatField fieldBytes headBytes frontBytes
   field-half f = omega (arith, half (f .dataType), length-append (headBytes (f .head)) (write (f .dataType)))
 
   children-half : (c : ℕ) (k : Children) → Arm c k → (ks : List (FieldOver T))

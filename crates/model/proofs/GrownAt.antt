@@ -1,4 +1,4 @@
--- What "grown" means for a column: it stands at the same index. And for a field: which order flags are equal.
+-- What "grown" means for a column: it stands at the same index. And for a field: which order flags are equal, and that the dictionary numbers are.
 use Prim.Native.Nat.{ℕ, zero, suc, _<_}
 use native.Mathlib.Omega.{arith}
 use mathlib.Core.Path.{_≡_, sym, _∙_}
@@ -30,3 +30,7 @@ grown-flag parked isNull G f g h n = go (h .dictIsOrdered)
     go : Stayed parked (isNull (f .dataType)) (f .head .dictIsOrdered) (g .head .dictIsOrdered) → f .head .dictIsOrdered ≡ g .head .dictIsOrdered
     go (inl e) = e
     go (inr e) = absurd (false≢true (sym n ∙ e))
+
+-- "Growth and the third promise keep it equal": the dictionary number of a field that grew, in both modes.
+pub grown-dict-id : {T : Type 0} (parked : Bool) (isNull : T → Bool) (G : Bool → T → T → Type 0) (f g : FieldOver T) → GrownField parked isNull G f g → f .head .dictId ≡ g .head .dictId
+grown-dict-id parked isNull G f g h = h .dictId

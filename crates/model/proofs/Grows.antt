@@ -10,7 +10,7 @@ use lib.Dec.{eqb}
 use borrow.Author.Tests.{eqb-true, eqb-false, eq-eqb}
 use Rattle.model.specs.Bytes.{Bytes, Metadata, choose, u16, Every, sameBytes}
 use Rattle.model.specs.Tree.{DataTypeOver, FieldOver, DataType, Field, Schema, withChildren, Null, List′, LargeList, Struct, Children, fields, counted, countedWithIds, layout}
-use Rattle.model.specs.Sheet.{each, part, stands, withCount, textBytes, pairBytes, headBytes, fieldBytes, childrenBytes, typeBytes, columnBytes, sheetBytes}
+use Rattle.model.specs.Sheet.{frontBytes, each, part, stands, withCount, textBytes, pairBytes, headBytes, fieldBytes, childrenBytes, typeBytes, columnBytes, sheetBytes, dictIdBytes}
 use Rattle.model.specs.Equal.{sameType}
 use Rattle.model.specs.Merge.{Merged, done, _>>=_, pour, mergePair, mergeMetadata, mergeByName, mergeChild, mergedOrder, mergeField, mergeEach, isNull, mergeSameCode, mergeType, mergeSchema}
 use Rattle.model.specs.Growth.{Begins, here, onto, Pairwise, none, pair, Kept, GrownField, GrownOver, identical, wasNull, struct, list, largeList, union, childBytes, Grown, GrownSchema, Distinct, names}
@@ -103,7 +103,7 @@ metadata-lasts n a b =
 
 module _ {T : Type 0} (parked : Bool) (isNull : T → Bool) (G : Bool → T → T → Type 0) where
   pub field-refl : ((n : Bool) (t : T) → G n t t) → (f : FieldOver T) → GrownField parked isNull G f f
-  field-refl r f = record { name = refl; dictIsOrdered = inl refl; metadata = kept-refl _; nullable = λ e. e; dataType = r _ _ }
+  field-refl r f = record { name = refl; dictIsOrdered = inl refl; metadata = kept-refl _; dictId = refl; nullable = λ e. e; dataType = r _ _ }
 
   pub field-trans : ((n : Bool) (a b : T) → G n a b → isNull b ≡ true → isNull a ≡ true)
       → ((m n : Bool) (a b c : T) → (m ≡ true → n ≡ true) → G m a b → G n b c → G n a c)
@@ -113,6 +113,7 @@ module _ {T : Type 0} (parked : Bool) (isNull : T → Bool) (G : Bool → T → 
         name = p .name ∙ q .name;
         dictIsOrdered = stayed-trans parked (isNull (f .dataType)) (isNull (g .dataType)) _ _ _ (was _ _ _ (p .dataType)) (p .dictIsOrdered) (q .dictIsOrdered);
         metadata = kept-trans _ _ _ (p .metadata) (q .metadata);
+        dictId = p .dictId ∙ q .dictId;
         nullable = λ e. q .nullable (p .nullable e);
         dataType = t _ _ _ _ _ (q .nullable) (p .dataType) (q .dataType);
       }
@@ -191,7 +192,7 @@ grows-trans parked (suc l) m n a b c up x y =
 
 field-map : {T : Type 0} {parked : Bool} {isNull : T → Bool} {G H : Bool → T → T → Type 0} → ((n : Bool) (a b : T) → G n a b → H n a b) → (f g : FieldOver T)
     → GrownField parked isNull G f g → GrownField parked isNull H f g
-field-map k f g h = record { name = h .name; dictIsOrdered = h .dictIsOrdered; metadata = h .metadata; nullable = h .nullable; dataType = k _ _ _ (h .dataType) }
+field-map k f g h = record { name = h .name; dictIsOrdered = h .dictIsOrdered; metadata = h .metadata; dictId = h .dictId; nullable = h .nullable; dataType = k _ _ _ (h .dataType) }
 
 -- what is the same as a tree is the same by whatever is compared
 over-map : {T A C : Type 0} (type : DataTypeOver (FieldOver T) → A) (child : FieldOver T → C) {E F : FieldOver T → FieldOver T → Type 0}
@@ -332,14 +333,15 @@ or-1 a b c d h = or-left (a || b || c) d (or-left (a || b) c (or-left a b h))
 or-3 : (a b c d : Bool) → c ≡ true → (a || b || c || d) ≡ true
 or-3 a b c d h = or-left (a || b || c) d (or-right (a || b) c h)
 
--- a field's length is its map's, its name's, its metadata's and its type's
+-- a field's length is its map's, its name's, its metadata's, its dictionary number's and its type's
 field-length : {T : Type 0} (write : T → Bytes) (f : FieldOver T)
-    → length (fieldBytes write f) ≡ 1 + (length (part textBytes (f .head .name)) + length (metadataPart (f .head .metadata))) + length (write (f .dataType))
-unfolding fieldBytes headBytes metadataPart
+    → length (fieldBytes write f) ≡ 1 + (length (part textBytes (f .head .name)) + (length (metadataPart (f .head .metadata)) + length (dictIdBytes (f .head .dictId)))) + length (write (f .dataType))
+unfolding fieldBytes headBytes frontBytes metadataPart
 field-length write f =
     omega (
       arith,
       length-append (headBytes (f .head)) (write (f .dataType)),
+      length-append (frontBytes (f .head)) (dictIdBytes (f .head .dictId)),
       length-append (part textBytes (f .head .name)) (part (withCount pairBytes) (f .head .metadata)),
     )
 
@@ -364,10 +366,11 @@ module _ {T : Type 0} (parked : Bool) (isNull : T → Bool) (write : T → Bytes
             name = refl;
             dictIsOrdered = first-stayed isNull f g parked;
             metadata = k .kept;
+            dictId = refl;
             nullable = or-1 (f .head .nullable) (g .head .nullable) (isNull (f .dataType)) (isNull (g .dataType));
             dataType = q .grown _ (or-3 (f .head .nullable) (g .head .nullable) (isNull (f .dataType)) (isNull (g .dataType)));
           };
-          longer = omega (arith, field-length write f, field-length write (record { head = record { typeId = f .head .typeId; nullable = f .head .nullable || g .head .nullable || isNull (f .dataType) || isNull (g .dataType); dictIsOrdered = mergedOrder parked isNull f g; name = f .head .name; metadata = d }; dataType = t }), k .longer, q .longer);
+          longer = omega (arith, field-length write f, field-length write (record { head = record { typeId = f .head .typeId; nullable = f .head .nullable || g .head .nullable || isNull (f .dataType) || isNull (g .dataType); dictIsOrdered = mergedOrder parked isNull f g; name = f .head .name; metadata = d; dictId = f .head .dictId }; dataType = t }), k .longer, q .longer);
         },
       )
 

@@ -4,6 +4,8 @@
 pub mod Lists
 pub mod Computed
 pub mod ByteStrings
+pub mod Numerals
+pub mod MapBits
 pub mod Steps
 pub mod Gives
 pub mod Layouts
@@ -29,7 +31,7 @@ pub mod Search
 pub mod Unions
 pub mod Projection
 pub mod Entries
-pub mod OrderFlags
+pub mod Unseen
 pub mod Normalized
 pub mod Flattened
 pub mod LeafCount
@@ -43,7 +45,7 @@ pub mod Size
 pub mod NothingLost
 pub mod GrownAt
 pub mod Grows
-pub mod StandingFlag
+pub mod Standing
 pub mod MergeAnswers
 pub mod Demand3
 pub mod Demand3Instances

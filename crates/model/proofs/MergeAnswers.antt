@@ -19,7 +19,7 @@ use Rattle.model.proofs.MergeKeeps.{empty-well-formed, merge-keeps}
 use Rattle.model.proofs.WholeSheets.{train-exact}
 use Rattle.model.proofs.Size.{train-size}
 use Rattle.model.proofs.NothingLost.{HeldSchema, columnsGiven, OneChildEach, well-formed-one-child, nothing-lost}
-use Rattle.model.proofs.StandingFlag.{standing, columnsOf, flag-stands}
+use Rattle.model.proofs.Standing.{columnsOf, standingFlag, flag-stands, standingDictId, dict-id-stands}
 use Rattle.model.proofs.Calls.{then-inv, bytes-inv}
 
 -- the train was read as these schemas, and they were merged to this one
@@ -38,7 +38,9 @@ pub record MergeOf (parked : Bool) (train b : Bytes) (xs : List Schema) (z : Sch
   pub columns : length (z .columns) ≤ columnsGiven xs
   -- the order flag of a column that is not Null is that of the first column of its name that is not Null
   pub flags : (h : Field maxLevels) → List·Memᴰ h (z .columns) → isNull maxLevels (h .dataType) ≡ false
-      → (o : Bool) → h .head .dictIsOrdered ≡ standing (isNull maxLevels) (h .head .name) (columnsOf xs) o
+      → (o : Bool) → h .head .dictIsOrdered ≡ standingFlag (h .head .name) (columnsOf xs) o
+  -- the dictionary number of a column is that of the first column of its name
+  pub dictIds : (h : Field maxLevels) → List·Memᴰ h (z .columns) → (d : ℕ) → h .head .dictId ≡ standingDictId (h .head .name) (columnsOf xs) d
 
 pub merge-answered : (parked : Bool) (train b : Bytes) → AreBytes train → mergeAnswer parked train ≡ bytes b → (xs : List Schema) × (z : Schema) × MergeOf parked train b xs z
 unfolding mergeAnswer sheetAnswer tryMerge
@@ -61,5 +63,6 @@ merge-answered parked train b byte h =
         held = lost .0;
         columns = lost .1;
         flags = flag-stands parked xs z i r;
+        dictIds = dict-id-stands parked xs z i r;
       },
     )

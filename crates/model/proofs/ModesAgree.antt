@@ -87,7 +87,7 @@ module _ (P : Bool → Type 0) where
         bind-agree _ _ (orders-agree (f .head .dictIsOrdered) (g .head .dictIsOrdered) _ (p .0) (q .0)) λ u same.
         bind-agree _ _ (gives-agree (any-gives _)) λ m k.
         bind-agree _ _ (h (f .dataType) (g .dataType) (p .1) (q .1)) λ t n.
-        alike-as (ap (λ o. record { head = record { typeId = f .head .typeId; nullable = f .head .nullable || g .head .nullable || isNull (f .dataType) || isNull (g .dataType); dictIsOrdered = o; name = f .head .name; metadata = m }; dataType = t })
+        alike-as (ap (λ o. record { head = record { typeId = f .head .typeId; nullable = f .head .nullable || g .head .nullable || isNull (f .dataType) || isNull (g .dataType); dictIsOrdered = o; name = f .head .name; metadata = m; dictId = f .head .dictId }; dataType = t })
         (either (isNull (f .dataType)) same)) (p .0, n)
       where
         either : (c : Bool) {o o′ : Bool} → o ≡ o′ → o ≡ cond c o′ o

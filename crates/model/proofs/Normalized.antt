@@ -7,7 +7,7 @@ use lib.ListN.{length-map}
 use lib.Dec.{eqb, ltb}
 use Rattle.model.specs.Numbers.{maxLevels}
 use Rattle.model.specs.Bytes.{Bytes, choose, Every, u16}
-use Rattle.model.specs.Tree.{FieldOver, DataType, Field, Struct, Children, fields, keyAndValue, counted, countedWithIds, layout}
+use Rattle.model.specs.Tree.{Head, FieldOver, DataType, Field, Struct, Children, fields, keyAndValue, counted, countedWithIds, layout}
 use Rattle.model.specs.Sheet.{each, withCount, headBytes, fieldBytes, childrenBytes, typeBytes}
 use Rattle.model.specs.Schema.{lift, plainColumn, join, expand, normalizedColumns}
 use Rattle.model.proofs.Gives.{choose-true, choose-false}
@@ -95,6 +95,7 @@ pub record Plain (c : Field maxLevels) : Type 0 where
   pub typeId : c .head .typeId ≡ 0
   pub dictIsOrdered : c .head .dictIsOrdered ≡ false
   pub metadata : c .head .metadata ≡ []
+  pub dictId : c .head .dictId ≡ 0
 
 module _ (separator : Bytes) (maxLevel : ℕ) where
   -- the name that a child's columns begin with
@@ -102,21 +103,21 @@ module _ (separator : Bytes) (maxLevel : ℕ) where
   under name c = name ++ (separator ++ c .head .name)
 
   -- a Struct that is expanded becomes the columns of its children, any other field one column
-  module _ (l : ℕ) (up : DataType (suc l) → DataType maxLevels) (depth : ℕ) (name : Bytes) (nullable : Bool) (t : DataType (suc l)) where
+  module _ (l : ℕ) (up : DataType (suc l) → DataType maxLevels) (depth : ℕ) (name : Bytes) (own : Head) (t : DataType (suc l)) where
     pub expand-children : (eqb (t .code) Struct && (eqb maxLevel 0 || ltb depth maxLevel)) ≡ true
-        → expand separator maxLevel (suc l) up depth name nullable t
-        ≡ join (λ c. expand separator maxLevel l (λ x. up (lift l x)) (suc depth) (under name c) (c .head .nullable) (c .dataType)) (t .children)
+        → expand separator maxLevel (suc l) up depth name own t
+        ≡ join (λ c. expand separator maxLevel l (λ x. up (lift l x)) (suc depth) (under name c) (c .head) (c .dataType)) (t .children)
     unfolding expand
     expand-children h = choose-true _ _ _ h
 
     pub expand-itself : (eqb (t .code) Struct && (eqb maxLevel 0 || ltb depth maxLevel)) ≡ false
-        → expand separator maxLevel (suc l) up depth name nullable t ≡ plainColumn name nullable (up t) ∷ []
+        → expand separator maxLevel (suc l) up depth name own t ≡ plainColumn name own (up t) ∷ []
     unfolding expand
     expand-itself h = choose-false _ _ _ h
 
   expand-written : (l : ℕ) (up : DataType l → DataType maxLevels) → ((t : DataType l) → typeBytes maxLevels (up t) ≡ typeBytes l t)
       → (depth : ℕ) (name : Bytes) (f : Field l)
-      → map written (expand separator maxLevel l up depth name (f .head .nullable) (f .dataType)) ≡ writtenFields maxLevel l depth f
+      → map written (expand separator maxLevel l up depth name (f .head) (f .dataType)) ≡ writtenFields maxLevel l depth f
   unfolding expand writtenFields
   expand-written zero up e depth name f = absurd (f .dataType)
   expand-written (suc l) up e depth name f =
@@ -125,14 +126,14 @@ module _ (separator : Bytes) (maxLevel : ℕ) where
       (f .dataType .children))
       (ap (λ b. (f .head .nullable, b) ∷ []) (e (f .dataType)))
 
-  expand-plain : (l : ℕ) (up : DataType l → DataType maxLevels) (depth : ℕ) (name : Bytes) (nullable : Bool) (t : DataType l)
-      → Every Plain (expand separator maxLevel l up depth name nullable t)
+  expand-plain : (l : ℕ) (up : DataType l → DataType maxLevels) (depth : ℕ) (name : Bytes) (own : Head) (t : DataType l)
+      → Every Plain (expand separator maxLevel l up depth name own t)
   unfolding expand
-  expand-plain zero up depth name nullable t = absurd t
-  expand-plain (suc l) up depth name nullable t =
+  expand-plain zero up depth name own t = absurd t
+  expand-plain (suc l) up depth name own t =
       of-choose (Every Plain) _ _ _
-      (every-join Plain _ (λ c. expand-plain l (λ x. up (lift l x)) (suc depth) (under name c) (c .head .nullable) (c .dataType)) (t .children))
-      (record { typeId = refl; dictIsOrdered = refl; metadata = refl }, tt)
+      (every-join Plain _ (λ c. expand-plain l (λ x. up (lift l x)) (suc depth) (under name c) (c .head) (c .dataType)) (t .children))
+      (record { typeId = refl; dictIsOrdered = refl; metadata = refl; dictId = refl }, tt)
 
   -- each column of a normalised schema has the nullability and the type of the field that it was made of, whatever the separator
   pub normalized-written : (cs : List (Field maxLevels))
@@ -140,14 +141,14 @@ module _ (separator : Bytes) (maxLevel : ℕ) where
   unfolding normalizedColumns
   normalized-written cs = map-join written _ _ (λ f. expand-written maxLevels (λ x. x) (λ t. refl) 0 (f .head .name) f) cs
 
-  -- "written columns lose metadata and order flag"
+  -- "written columns lose metadata and order flag"; "normalising drops a written column's own" dictionary number
   pub normalized-plain : (cs : List (Field maxLevels)) → Every Plain (normalizedColumns separator maxLevel cs)
   unfolding normalizedColumns
-  normalized-plain cs = every-join Plain _ (λ f. expand-plain maxLevels (λ x. x) 0 (f .head .name) (f .head .nullable) (f .dataType)) cs
+  normalized-plain cs = every-join Plain _ (λ f. expand-plain maxLevels (λ x. x) 0 (f .head .name) (f .head) (f .dataType)) cs
 
-  -- where no column is a Struct, normalising takes away metadata and order flags and changes nothing else (a column's type id is 0 already)
+  -- where no column is a Struct, normalising takes away metadata, order flags and dictionary numbers and changes nothing else (a column's type id is 0 already)
   pub normalized-flat : (cs : List (Field maxLevels)) → Every (λ f. eqb (f .dataType .code) Struct ≡ false) cs
-      → normalizedColumns separator maxLevel cs ≡ map (λ f. plainColumn (f .head .name) (f .head .nullable) (f .dataType)) cs
+      → normalizedColumns separator maxLevel cs ≡ map (λ f. plainColumn (f .head .name) (f .head) (f .dataType)) cs
   unfolding normalizedColumns join expand
   normalized-flat [] h = refl
   normalized-flat (f ∷ cs) h =

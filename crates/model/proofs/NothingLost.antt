@@ -36,7 +36,8 @@ EachIn {A} R xs ys = (x : A) → List·Memᴰ x xs → (y : A) × List·Memᴰ y
 
 -- A field f that was given, in a field h of the answer. Names are compared where the fields stand: a list's child may get another.
 -- A field of type Null alone stays as it is; once merged with another it is nullable. Parked log first, the order flag of a Null gives way
--- to that of the type which it takes: StandingFlag.antt says which flag stands then.
+-- to that of the type which it takes. Not asked is the dictionary number, since a later field's gives way to the first one's. Standing.antt says
+-- which flag and which dictionary number stand.
 pub record HeldField {T : Type 0} (parked : Bool) (H : T → T → Type 0) (isNull : T → Bool) (f h : FieldOver T) : Type 0 where
   pub metadata : Kept (f .head .metadata) (h .head .metadata)
   pub dictIsOrdered : Stayed parked (isNull (f .dataType)) (f .head .dictIsOrdered) (h .head .dictIsOrdered)
@@ -61,7 +62,7 @@ IsOther c = Every (λ d. c ≡ d → ⊥) (Null ∷ List′ ∷ LargeList ∷ St
 
 -- A type b that was given, in a type t of the answer. Of a Null nothing is asked. `H`, `isNull` and `eq` speak of the children's types,
 -- `eqOver` is equality of types such as b and t. Not asked, since the Rust's merge drops them: the mode of a later union, the name of a
--- later list's child, and the order flags inside types and union children that are equal, since equality ignores those flags.
+-- later list's child, and the order flags and dictionary numbers inside types and union children that are equal, since equality ignores them.
 pub record HeldOver {T : Type 0} (parked : Bool) (H : T → T → Type 0) (isNull : T → Bool) (eq : T → T → Bool)
     (eqOver : DataTypeOver (FieldOver T) → DataTypeOver (FieldOver T) → Bool) (b t : DataTypeOver (FieldOver T)) : Type 0 where
   pub struct : b .code ≡ Struct → (t .code ≡ Struct) × EachIn (HeldByName parked H isNull) (b .children) (t .children)

@@ -9,7 +9,7 @@ use lib.Dec.{leb→le}
 use Rattle.model.specs.Numbers.{maxLevels, maxSheetBytes, maxSheets}
 use Rattle.model.specs.Bytes.{Bytes, Metadata, num, bit}
 use Rattle.model.specs.Tree.{DataType, Field, Schema, Params, items, timestamp, Children, fields, keyAndValue, counted, countedWithIds, layout}
-use Rattle.model.specs.Read.{Step, got, bad, Reader, next, judged, ifSet, readMany, readItem, readNumber, readText, readPair, readList, readMetadata, readField, readBareType, readUnionChild, readChildren, readZone, readParams, readType, readColumn, readSchema, readSheet, shifted, readTwo, readSheets, readTrain}
+use Rattle.model.specs.Read.{Step, got, bad, Reader, next, judged, ifSet, readMany, readItem, readNumber, readText, readPair, readList, readMetadata, readDictId, readField, readBareType, readUnionChild, readChildren, readZone, readParams, readType, readColumn, readSchema, readSheet, shifted, readTwo, readSheets, readTrain}
 use Rattle.model.proofs.Steps.{Holds, value, refusal, of-got, next-holds, then-zero, unless-zero}
 use Rattle.model.proofs.Items.{number-room}
 use Rattle.model.proofs.Refusals.{choose-either}
@@ -101,6 +101,10 @@ module _ (s : Bytes) (limit : ℕ) {P : ℕ → Type 0} (further : (place n : �
   unfolding readMetadata
   metadata-stops place h = list-stops 1 _ pair-stops place h
 
+  dict-id-stops : (place : ℕ) → P place → StopsAt P (readDictId s limit place)
+  unfolding readDictId
+  dict-id-stops place h = number-stops 8 _ place h
+
   module _ (l : ℕ) (readType : Bool → Reader (DataType l)) (type-stops : (o : Bool) (place : ℕ) → P place → StopsAt P (readType o place)) where
     field-stops : (i place : ℕ) → P place → StopsAt P (readField s limit l readType i place)
     unfolding readField
@@ -108,7 +112,8 @@ module _ (s : Bytes) (limit : ℕ) {P : ℕ → Type 0} (further : (place n : �
         next-stops (number-stops 1 _ place h) λ m e₁ h.
         next-stops (set-stops _ _ _ e₁ h (text-stops 1 e₁ h)) λ n e₂ h.
         next-stops (set-stops _ _ _ e₂ h (metadata-stops e₂ h)) λ d e₃ h.
-        next-stops (type-stops (bit 1 m) e₃ h) λ t e h. atEnd h
+        next-stops (set-stops _ _ _ e₃ h (dict-id-stops e₃ h)) λ i e₄ h.
+        next-stops (type-stops (bit 1 m) e₄ h) λ t e h. atEnd h
 
     bare-stops : (place : ℕ) → P place → StopsAt P (readBareType s limit l readType place)
     unfolding readBareType

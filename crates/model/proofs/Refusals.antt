@@ -11,7 +11,7 @@ use Rattle.model.specs.Numbers.{schemaMetadataClash, orderedClash, field
 use Rattle.model.specs.Numbers.{oddList, indexOutOfBounds, indexRepeated, maskLength, separatorNotUtf8, noSuchColumn, moreFieldsThanIds, moreIdsThanFields, tooManyFields, answerTooLong, answerBufferShort, workBufferShort}
 use Rattle.model.specs.Bytes.{Bytes, Metadata, Found, found, missing, choose, all, num, bit, among}
 use Rattle.model.specs.Tree.{DataTypeOver, FieldOver, DataType, Field, Schema, Params, items, timestamp, Children, fields, keyAndValue, counted, countedWithIds, layout}
-use Rattle.model.specs.Read.{Step, got, bad, Reader, next, judged, ifSet, unless, _then_, atLeast, isText, mapFits, idFits, paramFits, readMany, readItem, readNumber, readText, readPair, readList, readMetadata, readField, readBareType, readUnionChild, readChildren, readZone, readParams, readType, readColumn, readSchema, readSheet, shifted, readTwo, readSheets, readTrain}
+use Rattle.model.specs.Read.{Step, got, bad, Reader, next, judged, ifSet, unless, _then_, atLeast, isText, mapFits, idFits, paramFits, readMany, readItem, readNumber, readText, readPair, readList, readMetadata, readDictId, readField, readBareType, readUnionChild, readChildren, readZone, readParams, readType, readColumn, readSchema, readSheet, shifted, readTwo, readSheets, readTrain}
 use Rattle.model.specs.Merge.{Merged, done, clash, _>>=_, need, pour, mergePair, mergeMetadata, mergeByName, mergeChild, mergeField, mergeEach, mergeSameCode, mergeType, mergeSchema, placed, mergeFrom, tryMerge}
 use Rattle.model.specs.Schema.{indices, indexFits, selected, project, normalize, ifFound, indexOf}
 use Rattle.model.specs.Filter.{filterLeaves}
@@ -269,6 +269,10 @@ module _ (s : Bytes) (limit : ℕ) where
   unfolding readMetadata
   metadata-refuses place = list-refuses 1 _ pair-refuses place
 
+  dict-id-refuses : (place : ℕ) → Refuses Reading (readDictId s limit place)
+  unfolding readDictId among
+  dict-id-refuses place = number-refuses 8 (atLeast 1) (λ x. unless-verdict _ malformed refl) place
+
   module _ (l : ℕ) (readType : Bool → Reader (DataType l)) (type-refuses : (o : Bool) (place : ℕ) → Refuses Reading (readType o place)) where
     field-refuses : (i place : ℕ) → Refuses Reading (readField s limit l readType i place)
     unfolding readField among
@@ -276,7 +280,8 @@ module _ (s : Bytes) (limit : ℕ) where
         next-refuses (number-refuses 1 (mapFits l) (λ m. then-verdict (unless-verdict _ tooDeep refl) (unless-verdict _ malformed refl)) place) λ m e₁.
         next-refuses (set-refuses _ _ _ e₁ (text-refuses 1 e₁)) λ n e₂.
         next-refuses (set-refuses _ _ _ e₂ (metadata-refuses e₂)) λ d e₃.
-        next-refuses (type-refuses (bit 1 m) e₃) λ t e. gives
+        next-refuses (set-refuses _ _ _ e₃ (dict-id-refuses e₃)) λ i e₄.
+        next-refuses (type-refuses (bit 1 m) e₄) λ t e. gives
 
     bare-refuses : (place : ℕ) → Refuses Reading (readBareType s limit l readType place)
     unfolding readBareType

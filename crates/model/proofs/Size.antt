@@ -9,7 +9,7 @@ use borrow.Author.Tests.{eqb-true, not-false}
 use Rattle.model.specs.Numbers.{maxLevels, schemaMetadataClash, fieldMetadataClash, orderedClash, equalChildClash, typeClash, typeIdClash}
 use Rattle.model.specs.Bytes.{Bytes, Metadata, u16}
 use Rattle.model.specs.Tree.{FieldOver, DataType, Schema, Children, fields, counted, countedWithIds, layout, withChildren, Struct, Union}
-use Rattle.model.specs.Sheet.{each, withCount, part, pairBytes, headBytes, fieldBytes, childrenBytes, typeBytes, columnBytes, sheetBytes}
+use Rattle.model.specs.Sheet.{frontBytes, each, withCount, part, pairBytes, headBytes, fieldBytes, childrenBytes, typeBytes, columnBytes, sheetBytes}
 use Rattle.model.specs.Read.{got, next}
 use Rattle.model.specs.Equal.{sameType}
 use Rattle.model.specs.Growth.{childBytes}
@@ -129,7 +129,7 @@ module _ {T : Type 0} (w : T → Bytes) (parked : Bool) (merge : T → T → Mer
   -- If a merge of types saves so many bytes at least, a merge of fields saves one more: two had a map, one is left.
   pub field-size : (f g : FieldOver T)
       → Gives (λ h. length (fieldBytes w h) + suc saved ≤ length (fieldBytes w f) + length (fieldBytes w g)) (mergeField parked merge isNull f g)
-  unfolding mergeField fieldBytes headBytes
+  unfolding mergeField fieldBytes headBytes frontBytes
   field-size f g =
       bind-gives {P = λ u. Unit {0}} _ (need-gives _ orderedClash tt λ e. tt) λ u z.
       bind-gives _ (metadata-part-size fieldMetadataClash (f .head .metadata) (g .head .metadata)) λ m k.

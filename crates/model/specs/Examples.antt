@@ -1,4 +1,4 @@
--- P1 to P12 of document 01, "Bench trials", and document 02's P5 in the mode "Parked log first", as one list.
+-- P1 to P12 of document 01, "Bench trials", and document 02's P5 in the mode "Parked log first", as one list; and trials of its dictionary number.
 use Prim.Native.Nat.{ℕ}
 use mathlib.Core.Path.{_≡_}
 use mathlib.Core.List.{List, [], _∷_, _++_}
@@ -8,7 +8,7 @@ use Rattle.model.specs.Tree.{Schema}
 use Rattle.model.specs.Read.{Step, got, bad, readSheet}
 use Rattle.model.specs.Merge.{asTheRust, parkedFirst}
 use Rattle.model.specs.Filter.{leafCount}
-use Rattle.model.specs.Call.{Answer, bytes, refused, mergeAnswer, projectAnswer, filterAnswer, normalizeAnswer, containsAnswer}
+use Rattle.model.specs.Call.{Answer, bytes, refused, mergeAnswer, projectAnswer, filterAnswer, normalizeAnswer, containsAnswer, equalAnswer, equalsDatatypeAnswer}
 
 -- Sheets, piece by piece, as bytes
 
@@ -18,6 +18,10 @@ one f = 0x02 ∷ 0x01 ∷ 0x00 ∷ f
 
 abbrev pub two : Bytes → Bytes → Bytes
 two f g = 0x02 ∷ 0x02 ∷ 0x00 ∷ f ++ g
+
+-- an i64 below 256, and what follows it
+abbrev pub i64 : ℕ → Bytes → Bytes
+i64 d t = d ∷ 0 ∷ 0 ∷ 0 ∷ 0 ∷ 0 ∷ 0 ∷ 0 ∷ t
 
 -- a field with a name of one byte, not nullable; the same nullable, with the ordered bit, and both
 abbrev pub field : ℕ → Bytes → Bytes
@@ -31,6 +35,16 @@ ordered name t = 0x06 ∷ 0x01 ∷ 0x00 ∷ name ∷ t
 
 abbrev pub nullableOrdered : ℕ → Bytes → Bytes
 nullableOrdered name t = 0x07 ∷ 0x01 ∷ 0x00 ∷ name ∷ t
+
+-- a field with a dictionary number below 256; the same nullable, and nullable with the ordered bit
+abbrev pub numbered : ℕ → ℕ → Bytes → Bytes
+numbered name d t = 0x14 ∷ 0x01 ∷ 0x00 ∷ name ∷ i64 d t
+
+abbrev pub nullableNumbered : ℕ → ℕ → Bytes → Bytes
+nullableNumbered name d t = 0x15 ∷ 0x01 ∷ 0x00 ∷ name ∷ i64 d t
+
+abbrev pub nullableOrderedNumbered : ℕ → ℕ → Bytes → Bytes
+nullableOrderedNumbered name d t = 0x17 ∷ 0x01 ∷ 0x00 ∷ name ∷ i64 d t
 
 -- `v:T` "is a non-nullable column"
 abbrev pub v : Bytes → Bytes
@@ -177,3 +191,38 @@ trials =
 -- the one statement
 abbrev pub P1toP12 : Type 0
 P1toP12 = AllHold trials
+
+-- Document 02, Item 13
+
+-- after the metadata {a: b}
+abbrev pub described : Bytes
+described = one (0x1C ∷ 0x01 ∷ 0x00 ∷ 0x76 ∷ 0x01 ∷ 0x00 ∷ 0x01 ∷ 0x00 ∷ a ∷ 0x01 ∷ 0x00 ∷ b ∷ i64 7 int8)
+
+-- inside a type
+abbrev pub inside : Bytes
+inside = list (numbered x 8 int8)
+
+abbrev pub dictIdTrials : List Trial
+dictIdTrials =
+    -- "Field map bit 4 now stands for an i64 other than 0, after the metadata"; "2 for a stored 0"; bit 5 stands for nothing
+    answers (mergeAnswer asTheRust described) (bytes described)
+    ∷ answers (mergeAnswer asTheRust (one (numbered 0x76 0 int8))) (refused 2 7)
+    ∷ answers (mergeAnswer asTheRust (one (0x20 ∷ int8))) (refused 2 3)
+    -- "merging keeps the first column's, even for a Null that takes a type"; those inside the type come with it
+    ∷ answers (mergeAnswer asTheRust (one (numbered 0x76 7 null) ++ one (numbered 0x76 9 inside))) (bytes (one (nullableNumbered 0x76 7 inside)))
+    ∷ answers (mergeAnswer asTheRust (one (numbered 0x76 7 inside) ++ v (list (numbered x 9 int8)))) (bytes (one (numbered 0x76 7 inside)))
+    ∷ answers (mergeAnswer asTheRust (v int8 ++ one (numbered 0x76 9 int8))) (bytes (v int8))
+    -- parked log first, the order flag comes with the type, the dictionary number stays
+    ∷ answers (mergeAnswer parkedFirst (one (numbered 0x76 7 null) ++ one (nullableOrderedNumbered 0x76 9 p5))) (bytes (one (nullableOrderedNumbered 0x76 7 p5)))
+    -- "equality and containment ignore it", so a union child is matched to an equal one
+    ∷ answers (mergeAnswer asTheRust (v (union 0 1 (0 ∷ numbered x 7 int8)) ++ v (union 0 1 (0 ∷ field x int8)))) (bytes (v (union 0 1 (0 ∷ numbered x 7 int8))))
+    ∷ answers (equalAnswer (one (numbered 0x76 7 inside)) (v (list (field x int8)))) (bytes (1 ∷ []))
+    ∷ answers (equalsDatatypeAnswer (one (numbered 0x76 7 inside)) (v (list (field x int8)))) (bytes (1 ∷ []))
+    ∷ answers (containsAnswer (one (numbered 0x76 7 inside)) (v (list (field x int8)))) (bytes (1 ∷ []))
+    -- "normalising drops a written column's own", expanded or not, and keeps those inside its type
+    ∷ answers (normalizeAnswer (one (numbered s 7 (struct 1 (numbered a 9 inside)))) (0x2E ∷ []) 0) (bytes (one (0x04 ∷ 3 ∷ 0 ∷ s ∷ 0x2E ∷ a ∷ inside)))
+    ∷ answers (normalizeAnswer (one (numbered 0x76 7 int8)) (0x2E ∷ []) 0) (bytes (v int8))
+    -- projecting and filtering keep it, the filter on a field that it builds anew too
+    ∷ answers (projectAnswer false (one (numbered 0x76 7 inside)) (0 ∷ 0 ∷ [])) (bytes (one (numbered 0x76 7 inside)))
+    ∷ answers (filterAnswer (one (numbered s 7 (struct 2 (field b int8 ++ numbered a 9 int8)))) (0 ∷ 1 ∷ [])) (bytes (one (numbered s 7 (struct 1 (numbered a 9 int8)))))
+    ∷ []

@@ -37,6 +37,8 @@ pub record GrownField {T : Type 0} (parked : Bool) (isNull : T → Bool) (G : Bo
   pub name : f .head .name ≡ g .head .name
   pub dictIsOrdered : Stayed parked (isNull (f .dataType)) (f .head .dictIsOrdered) (g .head .dictIsOrdered)
   pub metadata : Kept (f .head .metadata) (g .head .metadata)
+  -- the dictionary number: "Growth and the third promise keep it equal."
+  pub dictId : f .head .dictId ≡ g .head .dictId
   pub nullable : f .head .nullable ≡ true → g .head .nullable ≡ true
   pub dataType : G (g .head .nullable) (f .dataType) (g .dataType)
 

@@ -82,7 +82,8 @@ module _ {T : Type 0} (parked : Bool) (isNull : T → Bool) where
 
 module _ {T : Type 0} (parked : Bool) (merge : T → T → Merged T) (isNull : T → Bool) where
   -- `Field::try_merge`: "Checks in order: ordered flags, metadata, type." The first Null becomes nullable, a later Null makes the
-  -- column nullable, and "at the end the first is nullable if either is".
+  -- column nullable, and "at the end the first is nullable if either is". Of the dictionary number: "merging keeps the first
+  -- column's, even for a Null that takes a type".
   unfoldable pub mergeField : FieldOver T → FieldOver T → Merged (FieldOver T)
   mergeField f g =
       need (ordersAgree parked isNull f g) orderedClash tt >>= λ (u : Unit {0}).
@@ -95,6 +96,7 @@ module _ {T : Type 0} (parked : Bool) (merge : T → T → Merged T) (isNull : T
           dictIsOrdered = mergedOrder parked isNull f g;
           name = f .head .name;
           metadata = m;
+          dictId = f .head .dictId;
         };
         dataType = t;
       })

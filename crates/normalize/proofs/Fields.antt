@@ -13,7 +13,7 @@ use Rattle.model.specs.Bytes.{Bytes, u16}
 use Rattle.model.specs.Tree.{Head, DataType, Field, Struct, table, layout}
 use Rattle.model.specs.Sheet.{each, withCount, headBytes, fieldBytes, childrenBytes, typeBytes}
 use Rattle.model.specs.WellFormed.{WellFormedParams, LaidOut}
-use Rattle.model.specs.Schema.{lift, join, expand}
+use Rattle.model.specs.Schema.{lift, plainHead, join, expand}
 use Rattle.model.proofs.Lists.{and-true}
 use Rattle.model.proofs.Normalized.{lift-bytes, join-same, expand-children, expand-itself}
 use Rattle.buffer.specs.Puts.{Puts}
@@ -23,7 +23,7 @@ use Rattle.walk.proofs.Standing.{stands-behind, skip-ahead, skip-join, skip-sel
 use Rattle.walk.proofs.Parts.{Ahead, twoAt}
 use Rattle.walk.proofs.Descents.{head-stands, type-stands, code-stands, count-stands, elements-stand}
 use Rattle.normalize.specs.declared.Reach.{Reach}
-use Rattle.normalize.specs.Expands.{Above, prefix, plainHead, Adds, Expands, ownColumn, columnsOf, ExpandsColumn, ExpandsField, ExpandsFields}
+use Rattle.normalize.specs.Expands.{Above, prefix, Adds, Expands, ownColumn, columnsOf, ExpandsColumn, ExpandsField, ExpandsFields}
 use Rattle.normalize.proofs.Names.{prefix-snoc, above-longer}
 use Rattle.normalize.proofs.Columns.{expands-when}
 
@@ -31,7 +31,7 @@ use Rattle.normalize.proofs.Columns.{expands-when}
 abbrev PutsHead : (s separator : Bytes) (path : List ℕ) (depth place : ℕ) (w : Bytes) (p : ℕ) (w′ : Bytes) (q : ℕ) → Type 0
 PutsHead s separator path depth place w p w′ q =
     (hs : List Head) (h : Head) → Above s path depth hs → Stands s place (headBytes h)
-    → Puts (headBytes (plainHead (prefix separator hs ++ h .name) (h .nullable))) w p w′ q
+    → Puts (headBytes (plainHead (prefix separator hs ++ h .name) h)) w p w′ q
 
 module _ {s : Bytes} (separator : Bytes) {path : List ℕ} {depth : ℕ} {w : Bytes} {from : Reach} where
   pub column-expanded : {typed end : ℕ} {w₁ w₂ : Bytes} {q r d : ℕ} → ((h : Head) → Skips s (from .place) (headBytes h) typed) → SkipsType s typed maxLevels end
@@ -64,8 +64,8 @@ struct-bytes l t e z =
 -- the columns of the children, as the walk has them: this field is now above
 children-columns : (separator : Bytes) (maxLevel depth l : ℕ) (up : DataType l → DataType maxLevels) (hs : List Head) (h : Head) (ks : List (Field l))
     → join (columnsOf separator maxLevel (depth + 1) l up (hs ++ (h ∷ []))) ks
-    ≡ join (λ c. expand separator maxLevel l up (suc depth) ((prefix separator hs ++ h .name) ++ (separator ++ c .head .name)) (c .head .nullable) (c .dataType)) ks
-children-columns separator maxLevel depth l up hs h ks = join-same _ _ (λ c. ap₂ (λ d n. expand separator maxLevel l up d n (c .head .nullable) (c .dataType)) (add-one depth) (name (c .head .name))) ks
+    ≡ join (λ c. expand separator maxLevel l up (suc depth) ((prefix separator hs ++ h .name) ++ (separator ++ c .head .name)) (c .head) (c .dataType)) ks
+children-columns separator maxLevel depth l up hs h ks = join-same _ _ (λ c. ap₂ (λ d n. expand separator maxLevel l up d n (c .head) (c .dataType)) (add-one depth) (name (c .head .name))) ks
   where
     name : (m : Bytes) → prefix separator (hs ++ (h ∷ [])) ++ m ≡ (prefix separator hs ++ h .name) ++ (separator ++ m)
     name m =

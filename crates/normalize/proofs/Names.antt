@@ -12,15 +12,15 @@ use borrow.Author.Tests.{eqb-true, eqb-false, leb-true, leb-false}
 use Rattle.model.specs.Numbers.{maxLevels, maxSheetBytes}
 use Rattle.model.specs.Bytes.{Bytes, u16, flag}
 use Rattle.model.specs.Tree.{Head, blank}
-use Rattle.model.specs.Sheet.{textBytes, headBytes}
-use Rattle.model.specs.Schema.{join}
+use Rattle.model.specs.Sheet.{frontBytes, textBytes, headBytes}
+use Rattle.model.specs.Schema.{plainHead, join}
 use Rattle.model.proofs.Normalized.{join-append}
 use Rattle.buffer.specs.Puts.{Puts}
 use Rattle.buffer.proofs.Puts.{puts-none, puts-same, puts-join, puts-two}
 use Rattle.walk.specs.Stands.{Stands, Skips}
 use Rattle.walk.proofs.Parts.{Ahead}
 use Rattle.walk.proofs.Descents.{name-stands, no-name, body-stands}
-use Rattle.normalize.specs.Expands.{Above, prefix, Measures, plainHead}
+use Rattle.normalize.specs.Expands.{Above, prefix, Measures}
 
 -- The field's own name
 
@@ -112,20 +112,20 @@ measured-none b {k} m z = go (leb (length b) maxSheetBytes) refl
     go true e = omega (arith, z, m .inside (leb-true _ _ e))
     go false e = absurd (omega (arith, z, m .beyond (leb-false _ _ e)))
 
-named-bytes : (x : ℕ) (b : Bytes) (n : Bool) → headBytes (plainHead (x ∷ b) n) ≡ (flag 1 n + 4) ∷ (u16 (length (x ∷ b)) ++ (x ∷ b))
-unfolding headBytes textBytes
-named-bytes x b n = ap₂ _∷_ (omega arith) (append-nil (u16 (length (x ∷ b)) ++ (x ∷ b)))
+named-bytes : (x : ℕ) (b : Bytes) (own : Head) → headBytes (plainHead (x ∷ b) own) ≡ (flag 1 (own .nullable) + 4) ∷ (u16 (length (x ∷ b)) ++ (x ∷ b))
+unfolding frontBytes headBytes textBytes
+named-bytes x b own = ap₂ _∷_ (omega arith) (append-nil ((u16 (length (x ∷ b)) ++ (x ∷ b)) ++ []) ∙ append-nil (u16 (length (x ∷ b)) ++ (x ∷ b)))
 
-module _ (n : Bool) {k v : ℕ} {w : Bytes} {p : ℕ} where
-  pub head-unnamed : (b : Bytes) → Measures b k → {w′ : Bytes} {q : ℕ} → k ≡ 0 → v ≡ flag 1 n → Puts (v ∷ []) w p w′ q → Puts (headBytes (plainHead b n)) w p w′ q
-  unfolding headBytes
+module _ (own : Head) {k v : ℕ} {w : Bytes} {p : ℕ} where
+  pub head-unnamed : (b : Bytes) → Measures b k → {w′ : Bytes} {q : ℕ} → k ≡ 0 → v ≡ flag 1 (own .nullable) → Puts (v ∷ []) w p w′ q → Puts (headBytes (plainHead b own)) w p w′ q
+  unfolding frontBytes headBytes
   head-unnamed [] m z e f = puts-same (ap (λ x. x ∷ []) (omega (arith, e))) f
   head-unnamed (x ∷ b) m z e f = absurd (omega (arith, measured-none (x ∷ b) m z))
 
-  pub head-named : (b : Bytes) → Measures b k → {w₁ w₂ w₃ : Bytes} {q₁ q₂ q₃ : ℕ} → (k ≡ 0 → ⊥) → v ≡ flag 1 n + 4
-      → Puts (v ∷ []) w p w₁ q₁ → Puts (k % 256 ∷ k / 256 % 256 ∷ []) w₁ q₁ w₂ q₂ → Puts b w₂ q₂ w₃ q₃ → Puts (headBytes (plainHead b n)) w p w₃ q₃
+  pub head-named : (b : Bytes) → Measures b k → {w₁ w₂ w₃ : Bytes} {q₁ q₂ q₃ : ℕ} → (k ≡ 0 → ⊥) → v ≡ flag 1 (own .nullable) + 4
+      → Puts (v ∷ []) w p w₁ q₁ → Puts (k % 256 ∷ k / 256 % 256 ∷ []) w₁ q₁ w₂ q₂ → Puts b w₂ q₂ w₃ q₃ → Puts (headBytes (plainHead b own)) w p w₃ q₃
   head-named [] m z e f g h = absurd (z (m .inside (omega arith)))
   head-named (x ∷ b) m z e f g h =
       let name = x ∷ b in
       let text = puts-two (length name) name (λ i. (m .inside (omega (arith, i)), omega (arith, i))) g h in
-      puts-same (ap (λ v. v ∷ (u16 (length name) ++ name)) e ∙ sym (named-bytes x b n)) (puts-join (v ∷ []) (u16 (length name) ++ name) f text)
+      puts-same (ap (λ v. v ∷ (u16 (length name) ++ name)) e ∙ sym (named-bytes x b own)) (puts-join (v ∷ []) (u16 (length name) ++ name) f text)

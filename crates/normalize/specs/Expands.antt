@@ -2,7 +2,6 @@
 use Prim.Native.Nat.{ℕ, _+_, _≤_, _<_}
 use mathlib.Core.Path.{_≡_}
 use mathlib.Core.List.{List, [], _∷_, _++_}
-use mathlib.Core.Bool.{Bool, false}
 use lib.ListN.{length, getD}
 use lib.Dec.{leb}
 use Rattle.model.specs.Numbers.{maxLevels, maxSheetBytes}
@@ -33,10 +32,6 @@ pub record Measures (b : Bytes) (r : ℕ) : Type 0 where
   pub inside : length b ≤ maxSheetBytes → r ≡ length b
   pub beyond : maxSheetBytes < length b → maxSheetBytes < r
 
--- the head of a written column
-abbrev pub plainHead : Bytes → Bool → Head
-plainHead name nullable = record { typeId = 0; nullable = nullable; dictIsOrdered = false; name = name; metadata = [] }
-
 -- Columns
 
 -- The columns are written over w from p on, and counted on from c: w′ is the buffer then, q the position behind them, and d their number.
@@ -57,11 +52,11 @@ Lifts l up = (t : DataType l) → typeBytes maxLevels (up t) ≡ typeBytes l t
 module _ (separator : Bytes) where
   -- the column that a field is itself
   abbrev pub ownColumn : (l : ℕ) → (DataType l → DataType maxLevels) → List Head → Field l → Field maxLevels
-  ownColumn l up hs f = plainColumn (prefix separator hs ++ f .head .name) (f .head .nullable) (up (f .dataType))
+  ownColumn l up hs f = plainColumn (prefix separator hs ++ f .head .name) (f .head) (up (f .dataType))
 
   -- the columns that it becomes
   abbrev pub columnsOf : (maxLevel depth l : ℕ) → (DataType l → DataType maxLevels) → List Head → Field l → List (Field maxLevels)
-  columnsOf maxLevel depth l up hs f = expand separator maxLevel l up depth (prefix separator hs ++ f .head .name) (f .head .nullable) (f .dataType)
+  columnsOf maxLevel depth l up hs f = expand separator maxLevel l up depth (prefix separator hs ++ f .head .name) (f .head) (f .dataType)
 
 -- What the walk does at a depth, for any field with those above it
 

@@ -20,7 +20,7 @@ ghost use Rattle.model.specs.Call.{sheetAnswer, settled, zeros, normalizeCall};
 ghost use Rattle.buffer.specs.Puts.{Puts};
 ghost use Rattle.buffer.specs.Leaves.{leaves};
 ghost use Rattle.walk.specs.Stands.{Stands};
-ghost use Rattle.normalize.specs.Expands.{Above, prefix, Measures, plainHead, ExpandsColumn, ExpandsField, ExpandsFields, PutsColumns, sheetLength, PutsNormalized};
+ghost use Rattle.normalize.specs.Expands.{Above, prefix, Measures, ExpandsColumn, ExpandsField, ExpandsFields, PutsColumns, sheetLength, PutsNormalized};
 
 // The code of the type that is expanded, in the order of `DataType`.
 const STRUCT: usize = 32;
@@ -121,7 +121,7 @@ fn name_length(
     put_name(&mut none, 0, s, at, separator, path, depth)
 }
 
-// A column's head: "written columns lose metadata and order flag, keep their own nullability". A name that comes out empty has its bit clear.
+// A column's head: "written columns lose metadata and order flag, keep their own nullability", and lose the dictionary number. A name that comes out empty has its bit clear.
 fn put_head(
     w: &mut [u8],
     pos: usize,
@@ -131,7 +131,7 @@ fn put_head(
     path: &[usize; Cursor::LEVELS],
     depth: usize,
 ) -> usize
-    ensures { λ r. ⌜ ((hs : List Head) (h : Head) → Above (now (s .entry)) (now (path .entry)) depth hs → Stands (now (s .entry)) at (headBytes h) → Puts (headBytes (plainHead (prefix (now (separator .entry)) hs ++ h .name) (h .nullable))) (now (w .entry)) pos (now (w .exit)) r) ⌝ }
+    ensures { λ r. ⌜ ((hs : List Head) (h : Head) → Above (now (s .entry)) (now (path .entry)) depth hs → Stands (now (s .entry)) at (headBytes h) → Puts (headBytes (schemas.plainHead (prefix (now (separator .entry)) hs ++ h .name) h)) (now (w .entry)) pos (now (w .exit)) r) ⌝ }
 {
     let nullable = walk::byte(s, at) % 2;
     let length = name_length(s, at, separator, path, depth);

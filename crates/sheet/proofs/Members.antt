@@ -11,7 +11,7 @@ use borrow.Author.Tests.{eq-eqb, ne-eqb, eqb-true, eqb-false, leb-true, le-leb, 
 use Rattle.model.specs.Bytes.{Bytes, among, bit}
 use Rattle.model.specs.Tree.{Field, DataType}
 use Rattle.model.specs.Read as read
-use Rattle.model.specs.Read.{got, bad, Reader, next, judged, unless, _then_, anything, idFits, ifSet, readNumber, readText, readMetadata, readMany, readField, readUnionChild, readType}
+use Rattle.model.specs.Read.{got, bad, Reader, next, judged, unless, _then_, anything, idFits, ifSet, readNumber, readText, readMetadata, readDictId, readMany, readField, readUnionChild, readType}
 use Rattle.model.proofs.Steps.{Holds, value, refusal, next-holds}
 use Rattle.model.proofs.Items.{number-law}
 use Rattle.sheet.specs.Answers.{itemOf, stepOf, upOf}
@@ -46,6 +46,7 @@ field-id s lim l rt i at =
     next-holds (any (readNumber s lim 1 _ at)) λ m e u.
     next-holds (any (ifSet (bit 2 m) (readText s lim 1) [] e)) λ n e u.
     next-holds (any (ifSet (bit 3 m) (readMetadata s lim) [] e)) λ d e u.
+    next-holds (any (ifSet (bit 4 m) (readDictId s lim) 0 e)) λ k e u.
     next-holds (any (rt (bit 1 m) e)) λ t e u.
     value refl
   where

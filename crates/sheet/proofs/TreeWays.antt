@@ -12,7 +12,7 @@ use Rattle.model.specs.Bytes.{Bytes, bit, choose}
 use Rattle.model.specs.Tree.{Schema, DataType, layout}
 use Rattle.model.specs.Tree.Children.{fields, keyAndValue, countedWithIds}
 use Rattle.model.specs.Read as read
-use Rattle.model.specs.Read.{got, bad, Reader, next, judged, unless, _then_, anything, atMost, mapFits, codeFits, ifSet, readList, readColumn, readSchema, readSheets, readSheet, shifted, readTwo, readItem, readNumber, readText, readMetadata, readMany, readField, readBareType, readChildren, readParams, readType}
+use Rattle.model.specs.Read.{got, bad, Reader, next, judged, unless, _then_, anything, atMost, mapFits, codeFits, ifSet, readList, readColumn, readSchema, readSheets, readSheet, shifted, readTwo, readItem, readNumber, readText, readMetadata, readDictId, readMany, readField, readBareType, readChildren, readParams, readType}
 use Rattle.model.proofs.Items.{number-law}
 use Rattle.model.proofs.Places.{Inside, atEnd, atRefusal, sheet-inside}
 use Rattle.sheet.specs.Answers.{stepOf, cursorAt}
@@ -28,7 +28,7 @@ pub field-any : (s : Bytes) (lim l : ℕ) (rt : Bool → Reader (DataType l)) (i
 unfolding readField
 field-any s lim l rt i j at =
     next-alike (readNumber s lim 1 _ at) _ _ (λ m e. next-alike (ifSet (bit 2 m) (readText s lim 1) [] e) _ _ (λ n e. next-alike (ifSet (bit 3 m) (readMetadata s lim) [] e) _ _ (λ d e.
-    step-made _ (rt (bit 1 m) e) ∙ sym (step-made _ (rt (bit 1 m) e)))))
+    next-alike (ifSet (bit 4 m) (readDictId s lim) 0 e) _ _ (λ k e. step-made _ (rt (bit 1 m) e) ∙ sym (step-made _ (rt (bit 1 m) e))))))
 
 pub field-way : (r : Step) (s : Bytes) (lim l at : ℕ) → r ≡ stepOf (next (readNumber s lim 1 (mapFits l) at) (λ m e. next (readHead s lim m e) (λ d e. readType s lim l (bit 1 m) e)))
     → r ≡ stepOf (readField s lim l (readType s lim l) 0 at)
@@ -36,8 +36,10 @@ unfolding readField readHead
 field-way r s lim l at h =
     h ∙ next-alike (readNumber s lim 1 (mapFits l) at) _ _ (λ m e.
     ap stepOf (next-next (ifSet (bit 2 m) (readText s lim 1) [] e) _ _)
-    ∙ next-alike (ifSet (bit 2 m) (readText s lim 1) [] e) _ _ (λ n e. next-alike (ifSet (bit 3 m) (readMetadata s lim) [] e) _ _ (λ d e.
-    sym (step-made _ (readType s lim l (bit 1 m) e)))))
+    ∙ next-alike (ifSet (bit 2 m) (readText s lim 1) [] e) _ _ (λ n e.
+    ap stepOf (next-next (ifSet (bit 3 m) (readMetadata s lim) [] e) _ _)
+    ∙ next-alike (ifSet (bit 3 m) (readMetadata s lim) [] e) _ _ (λ d e. next-alike (ifSet (bit 4 m) (readDictId s lim) 0 e) _ _ (λ k e.
+    sym (step-made _ (readType s lim l (bit 1 m) e))))))
 
 -- So many of one kind, whatever was seen before
 

@@ -2,7 +2,7 @@
 -- a return.
 use Prim.Native.Nat.{ℕ, zero, suc, _+_, _*_, _-_, _/_, _%_, _^_, _<_, _≤_}
 use native.Mathlib.Omega.{arith}
-use mathlib.Core.Path.{_≡_, refl, sym, ap, _∙_}
+use mathlib.Core.Path.{_≡_, refl, sym, ap, subst, _∙_}
 use mathlib.Core.Bool.{Bool, true, false, _||_, false≢true}
 use lib.ListN.{length, getD, take, drop}
 use lib.Dec.{ltb, leb}
@@ -11,8 +11,9 @@ use Rattle.model.specs.Numbers.{malformed}
 use Rattle.model.specs.Bytes.{Bytes, bit, num}
 use Rattle.model.specs.Text.{utf8}
 use Rattle.model.specs.Read as read
-use Rattle.model.specs.Read.{got, bad, Reader, next, judged, ifSet, unless, _then_, anything, isText, paramFits, readItem, readNumber}
-use Rattle.model.proofs.Items.{item-ends, item-far, item-judged, item-law, number-law, number-ends, number-far, byte-got, two-got}
+use Rattle.model.specs.Read.{got, bad, Reader, next, judged, ifSet, unless, _then_, atLeast, anything, isText, paramFits, readItem, readNumber, readDictId}
+use Rattle.model.proofs.Items.{item-ends, item-far, item-judged, item-law, number-law, number-ends, number-far, byte-got, two-got, ItemRoom, item-room}
+use Rattle.model.proofs.Steps.{Holds, of-got}
 use Rattle.sheet.specs.Answers.{itemOf, stepOf, upOf}
 use Rattle.sheet.specs.declared.Item.{Item}
 use Rattle.sheet.specs.declared.Step.{Step}
@@ -239,5 +240,38 @@ module _ (s : Bytes) (lim at n : ℕ) (h : at + n ≤ length s) (k : at + n ≤ 
   pub body-broken : t ≡ Text.Broken → Step.Refused 3 at ≡ stepOf (readItem s lim n isText at)
   unfolding judged unless
   body-broken v = rw (item-judged s lim n isText at h k, sym body-utf8 ∙ broken-false _ e v)
+
+-- A dictionary number: its bytes as they stand, then the verdict
+
+module _ (s : Bytes) (lim at : ℕ) {raw : Step} (e : raw ≡ stepOf (readItem s lim 8 anything at)) where
+  verdict : stepOf (readDictId s lim at) ≡ stepOf (next (readItem s lim 8 anything at) (λ b e. judged (atLeast 1 (num b)) at b e))
+  unfolding readDictId readNumber
+  verdict = step-made num (readItem s lim 8 (λ b. atLeast 1 (num b)) at) ∙ ap stepOf (item-law s lim 8 (λ b. atLeast 1 (num b)) at)
+
+  pub dict-id-refused : {k p : ℕ} → raw ≡ Step.Refused k p → raw ≡ stepOf (readDictId s lim at)
+  dict-id-refused {k} {p} t = step-stop raw (readItem s lim 8 anything at) _ k p e t ∙ sym verdict
+
+  module _ {end : ℕ} (t : raw ≡ Step.Next end) where
+    is-read : (b : Bytes) × (readItem s lim 8 anything at ≡ got b end)
+    is-read = step-is (readItem s lim 8 anything at) e t
+
+    room : ItemRoom s 8 at (is-read .0) end
+    room = of-got (subst (Holds (ItemRoom s 8 at)) (is-read .1) (item-room s lim 8 anything at))
+
+    pub dict-id-inside : at + 8 ≤ length s
+    dict-id-inside = omega (arith, room .ends, room .inside)
+
+    module _ {v : ℕ} (w : v ≡ num (take 8 (drop at s))) where
+      read-is : stepOf (readDictId s lim at) ≡ stepOf (judged (atLeast 1 v) at (is-read .0) end)
+      unfolding next
+      read-is = verdict ∙ ap (λ g. stepOf (next g (λ b e. judged (atLeast 1 (num b)) at b e))) (is-read .1) ∙ ap (λ n. stepOf (judged (atLeast 1 n) at (is-read .0) end)) (ap num (room .bytes) ∙ sym w)
+
+      pub dict-id-zero : v ≡ 0 → Step.Refused 2 at ≡ stepOf (readDictId s lim at)
+      unfolding judged unless
+      dict-id-zero z = sym (read-is ∙ ap (λ n. stepOf (judged (atLeast 1 n) at (is-read .0) end)) z)
+
+      pub dict-id-there : (v ≡ 0 → ⊥) → Step.Next end ≡ stepOf (readDictId s lim at)
+      unfolding judged unless
+      dict-id-there n = sym (read-is ∙ ap (λ b. stepOf (judged (unless b malformed) at (is-read .0) end)) (le-leb 1 v (omega (arith, n))))
 
 pub ruleset ways = (item-then, item-stop, number-then, number-stop, step-then, step-stop, step-make, judge-pass, judge-any, judge-le, judge-nle, judge-le-then, judge-nle-then, judge-lt-then, judge-nlt-then, judge-true, judge-false, set-way, unset-way, set-way-0, unset-way-0, end-le, end-nle, param-way)

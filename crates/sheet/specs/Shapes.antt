@@ -5,15 +5,16 @@ use mathlib.Core.Bool.{not}
 use lib.ListN.{getD, set, replicate}
 use lib.Dec.{eqb, leb}
 use Rattle.model.specs.Numbers.{maxTypeId, idTooLarge, idRepeated}
-use Rattle.model.specs.Bytes.{Bytes, Metadata, bit}
+use Rattle.model.specs.Bytes.{Bytes, bit}
 use Rattle.model.specs.Tree.{Field, layout}
-use Rattle.model.specs.Read.{Step, got, next, judged, unless, _then_, anything, ifSet, readNumber, readText, readMetadata, readParams, readField, readType, readChildren}
+use Rattle.model.specs.Read.{Step, got, next, judged, unless, _then_, anything, ifSet, readNumber, readText, readMetadata, readDictId, readParams, readField, readType, readChildren}
 
 -- what follows a field's map, up to its type
-unfoldable pub readHead : Bytes → ℕ → ℕ → ℕ → Step Metadata
+unfoldable pub readHead : Bytes → ℕ → ℕ → ℕ → Step ℕ
 readHead s lim map place =
     next (ifSet (bit 2 map) (readText s lim 1) [] place) λ n e.
-    ifSet (bit 3 map) (readMetadata s lim) [] e
+    next (ifSet (bit 3 map) (readMetadata s lim) [] e) λ d e.
+    ifSet (bit 4 map) (readDictId s lim) 0 e
 
 unfoldable pub readShape : Bytes → ℕ → (l : ℕ) → ℕ → ℕ → Step (List (Field l))
 readShape s lim l code place =

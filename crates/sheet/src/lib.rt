@@ -10,7 +10,7 @@ ghost use Prim.Native.Nat.{_-_};
 ghost use Rattle.model.specs.Bytes.{bit};
 ghost use Rattle.model.specs.Tree.{layout};
 ghost use Rattle.model.specs.Tree.Params.{timestamp};
-ghost use Rattle.model.specs.Read.{anything, isText, ifSet, paramFits, readItem, readNumber, readText, readMany, readPair, readMetadata, readZone, readParams, readField, readType, readChildren, readUnionChild, readList, readColumn, readSchema, readSheet, readTwo, readTrain};
+ghost use Rattle.model.specs.Read.{anything, isText, ifSet, paramFits, readItem, readNumber, readText, readMany, readPair, readMetadata, readDictId, readZone, readParams, readField, readType, readChildren, readUnionChild, readList, readColumn, readSchema, readSheet, readTwo, readTrain};
 ghost use Rattle.model.specs.Numbers.{maxSheetBytes};
 ghost use Prim.Native.Nat.{_^_};
 ghost use Rattle.sheet.specs.Answers.{itemOf, stepOf, upOf, cursorAt};
@@ -257,6 +257,30 @@ fn read_field_metadata(s: &[u8], lim: usize, at: usize, map: usize) -> Step
     Step::Next(at)
 }
 
+// A dictionary number: "2 for a stored 0".
+fn read_dict_id(s: &[u8], lim: usize, at: usize) -> Step
+    ensures { λ r. ⌜ r ≡ stepOf (readDictId (now (s .entry)) lim at) ⌝ }
+{
+    let raw = read_raw(s, lim, at, 8);
+    let Step::Next(end) = raw else {
+        return raw;
+    };
+    if text::word(s, at) == 0 {
+        return Step::Refused(2, at);
+    }
+    Step::Next(end)
+}
+
+// A field's dictionary number, which stands where bit 4 of its map does.
+fn read_field_dict_id(s: &[u8], lim: usize, at: usize, map: usize) -> Step
+    ensures { λ r. ⌜ r ≡ stepOf (ifSet (bit 4 map) (readDictId (now (s .entry)) lim) 0 at) ⌝ }
+{
+    if map / 16 % 2 == 1 {
+        return read_dict_id(s, lim, at);
+    }
+    Step::Next(at)
+}
+
 // A schema's metadata, which stands where bit 0 of the sheet's map does.
 fn read_schema_metadata(s: &[u8], lim: usize, at: usize, map: usize) -> Step
     ensures { λ r. ⌜ r ≡ stepOf (ifSet (bit 0 map) (readMetadata (now (s .entry)) lim) [] at) ⌝ }
@@ -334,7 +358,11 @@ fn read_head(s: &[u8], lim: usize, at: usize, map: usize) -> Step
     let Step::Next(next) = named else {
         return named;
     };
-    read_field_metadata(s, lim, next, map)
+    let metadata = read_field_metadata(s, lim, next, map);
+    let Step::Next(end) = metadata else {
+        return metadata;
+    };
+    read_field_dict_id(s, lim, end, map)
 }
 
 // Whether a type of this code may stand under a field with the ordered bit, or without it.
@@ -375,7 +403,7 @@ fn read_field(s: &[u8], lim: usize, at: usize, levels: usize) -> Step
     if levels <= 0 {
         return Step::Refused(5, at);
     }
-    if 15 < map {
+    if 31 < map {
         return Step::Refused(2, at);
     }
     let head = read_head(s, lim, next, map);

@@ -9,10 +9,11 @@ use lib.Dec.{eqb}
 use borrow.Author.Tests.{ne-eqb}
 use Rattle.model.specs.Bytes.{Bytes, flag}
 use Rattle.model.specs.Tree.{Head, Field}
-use Rattle.model.specs.Sheet.{stands, part, withCount, pairBytes, textBytes, headBytes, fieldBytes, typeBytes}
+use Rattle.model.specs.Sheet.{frontBytes, dictIdBytes, stands, part, withCount, pairBytes, textBytes, headBytes, fieldBytes, typeBytes}
 use Rattle.walk.specs.Stands.{Stands, Skips}
-use Rattle.walk.proofs.Standing.{byte-stands}
-use Rattle.walk.proofs.Parts as walk
+use Rattle.model.proofs.MapBits as map
+use Rattle.model.proofs.MapBits.{is-one}
+use Rattle.walk.proofs.Parts.{map-stands}
 use Rattle.walk.proofs.Descents.{head-stands, type-stands}
 use Rattle.table.specs.Held.{Held}
 use Rattle.table.specs.Table.{raw, u24, SpellField, SpellType, spellRaw, rawPairs}
@@ -21,24 +22,18 @@ use Rattle.table.specs.Opened.{NewEntry}
 
 -- the nullable bit of a field that stands in the train
 pub nullable-bit : {s : Bytes} {q map : ℕ} (l : ℕ) (g : Field l) → map ≡ getD s q 0 → Stands s q (fieldBytes (typeBytes l) g) → map % 2 ≡ flag 1 (g .head .nullable)
-unfolding headBytes
-nullable-bit l g e st =
-    ap (λ n. n % 2) (e ∙ byte-stands (head-stands l g st))
-    ∙ walk.nullable-bit (g .head .nullable) (g .head .dictIsOrdered) (stands (g .head .name)) (stands (g .head .metadata))
+nullable-bit l g e st = ap (λ n. n % 2) (map-stands e (g .head) (head-stands l g st)) ∙ map.nullable-bit (g .head)
 
 -- and its order bit
 pub order-bit : {s : Bytes} {q map : ℕ} (l : ℕ) (g : Field l) → map ≡ getD s q 0 → Stands s q (fieldBytes (typeBytes l) g) → map / 2 % 2 ≡ flag 1 (g .head .dictIsOrdered)
-unfolding headBytes
-order-bit l g e st =
-    ap (λ n. n / 2 % 2) (e ∙ byte-stands (head-stands l g st))
-    ∙ walk.order-bit (g .head .nullable) (g .head .dictIsOrdered) (stands (g .head .name)) (stands (g .head .metadata))
+order-bit l g e st = ap (λ n. n / 2 % 2) (map-stands e (g .head) (head-stands l g st)) ∙ map.order-bit (g .head)
 
 module _ {s : Bytes} {q t map : ℕ} (e : map ≡ getD s q 0) (f : (h : Head) → Skips s q (headBytes h) t) where
   abbrev entry : Bytes
   entry = map % 4 % 256 ∷ (u24 q ++ (raw ∷ u24 t))
 
   pub new-entry : (l : ℕ) (g : Field l) → Incoming l s q g → SpellField l s (4 * length (fieldBytes (typeBytes l) g)) entry g
-  unfolding fieldBytes headBytes
+  unfolding fieldBytes frontBytes headBytes
   new-entry l g i =
       let st = i .stands in
       let n = length-append (headBytes (g .head)) (typeBytes l (g .dataType)) in
@@ -57,12 +52,13 @@ module _ {s : Bytes} {q t map : ℕ} (e : map ≡ getD s q 0) (f : (h : Head) �
         stands = st;
         wellFormed = i .wellFormed;
         name = refl;
-        dictIsOrdered = walk.is-one (map % 4 % 256 / 2 % 2) (g .head .dictIsOrdered) (omega (arith, order-bit l g e st));
+        dictIsOrdered = is-one (map % 4 % 256 / 2 % 2) (g .head .dictIsOrdered) (omega (arith, order-bit l g e st));
+        dictId = refl;
         typeId = i .typeId;
-        nullable = walk.is-one (map % 4 % 256 % 2) (g .head .nullable) (omega (arith, nullable-bit l g e st));
+        nullable = is-one (map % 4 % 256 % 2) (g .head .nullable) (omega (arith, nullable-bit l g e st));
         metadata = rawPairs (closed (map % 4 % 256) (omega arith)) refl refl (omega arith);
         dataType = raw-type l g i;
-        room = omega (arith, n, m);
+        room = omega (arith, n, m, length-append (frontBytes (g .head)) (dictIdBytes (g .head .dictId)));
       }
     where
       closed : (n : ℕ) → n < 4 → eqb (n / 4) 1 ≡ false

@@ -9,7 +9,7 @@ use lib.ListN.{length, getD, length-append}
 use Rattle.model.specs.Bytes.{Bytes}
 use Rattle.model.specs.Tree.{DataType, Field, layout, oneField, table, List′, LargeList, Struct, Union}
 use Rattle.model.specs.Tree.Children.{fields}
-use Rattle.model.specs.Sheet.{each, headBytes, fieldBytes, childrenBytes, typeBytes}
+use Rattle.model.specs.Sheet.{frontBytes, dictIdBytes, each, headBytes, fieldBytes, childrenBytes, typeBytes}
 use Rattle.model.specs.WellFormed.{WellFormedParams, WellFormedField, WellFormedChildren, WellFormedType}
 use Rattle.walk.specs.Stands.{Stands}
 use Rattle.walk.proofs.Standing.{byte-stands, stands-behind, skip-ahead}
@@ -109,8 +109,8 @@ type-long (suc l) t = omega arith
 
 -- a field has a map and a code at least
 pub field-long : (l : ℕ) (f : Field l) → 2 ≤ length (fieldBytes (typeBytes l) f)
-unfolding fieldBytes headBytes
-field-long l f = omega (arith, length-append (headBytes (f .head)) (typeBytes l (f .dataType)), type-long l (f .dataType))
+unfolding fieldBytes frontBytes headBytes
+field-long l f = omega (arith, length-append (frontBytes (f .head)) (dictIdBytes (f .head .dictId)), length-append (headBytes (f .head)) (typeBytes l (f .dataType)), type-long l (f .dataType))
 
 -- what `insert_entry` ensures
 abbrev pub InsertsEntry : (s w : Bytes) (used inner q : ℕ) (w′ : Bytes) (r : ℕ) → Type 0

@@ -91,6 +91,7 @@ pub record SpellFieldOver {T : Type 0} (write : T → Bytes) (G : Bool → T →
   pub wellFormed : WellFormedField G own
   pub name : own .head .name ≡ f .head .name
   pub dictIsOrdered : eqb (flags / 2 % 2) 1 ≡ f .head .dictIsOrdered
+  pub dictId : own .head .dictId ≡ f .head .dictId
   pub typeId : f .head .typeId ≡ 0
   pub nullable : eqb (flags % 2) 1 ≡ f .head .nullable
   pub metadata : SpellMetadata s metadataRoom (eqb (flags / 4) 1) metadataBytes (own .head .metadata) (f .head .metadata)

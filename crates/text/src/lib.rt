@@ -113,7 +113,7 @@ fn wide(x: u8) -> u64
 }
 
 // The number of the eight bytes at a place, the lowest first. The sum compiles to one load.
-fn word(s: &[u8], i: usize) -> u64
+pub fn word(s: &[u8], i: usize) -> u64
     requires { ⌜ i + 8 ≤ length (now s) ⌝ }
     ensures { λ r. ⌜ r ≡ num (take 8 (drop i (now (s .entry)))) ⌝ }
 {

@@ -9,12 +9,13 @@ use lib.Dec.{eqb}
 use borrow.Author.Tests.{eq-eqb, ne-eqb}
 use Rattle.model.specs.Bytes.{Bytes, u16, flag}
 use Rattle.model.specs.Tree.{Head, DataType, Field, layout}
-use Rattle.model.specs.Sheet.{each, part, stands, withCount, pairBytes, textBytes, headBytes, fieldBytes, childrenBytes, typeBytes}
+use Rattle.model.specs.Sheet.{frontBytes, each, part, stands, withCount, pairBytes, textBytes, headBytes, fieldBytes, childrenBytes, typeBytes}
 use Rattle.model.specs.WellFormed.{WellFormedParams, LaidOut}
 use Rattle.model.proofs.Lists.{each-append}
 use Rattle.walk.specs.Stands.{Stands, Skips}
 use Rattle.walk.proofs.Standing.{first-stands, byte-stands, two-stands, num-u16, stands-behind, skip-ahead}
-use Rattle.walk.proofs.Parts.{Ahead, twoAt, name-bit, nullable-bit}
+use Rattle.walk.proofs.Parts.{Ahead, twoAt, front-stands, map-stands}
+use Rattle.model.proofs.MapBits.{nullable-bit, name-set}
 
 module _ {s : Bytes} {place : ℕ} where
   -- Fields
@@ -32,18 +33,15 @@ module _ {s : Bytes} {place : ℕ} where
 
   module _ {map : ℕ} (e : map ≡ getD s place 0) where
     pub nullable-stands : (h : Head) → Stands s place (headBytes h) → map % 2 ≡ flag 1 (h .nullable)
-    unfolding headBytes
-    nullable-stands h st =
-        ap (λ m. m % 2) (e ∙ byte-stands st) ∙ nullable-bit (h .nullable) (h .dictIsOrdered) (stands (h .name)) (stands (h .metadata))
+    nullable-stands h st = ap (λ m. m % 2) (map-stands e h st) ∙ nullable-bit h
 
     named : (h : Head) → Stands s place (headBytes h) → eqb (map / 4 % 2) 1 ≡ stands (h .name)
-    unfolding headBytes
-    named h st = ap (λ m. eqb (m / 4 % 2) 1) (e ∙ byte-stands st) ∙ name-bit (h .nullable) (h .dictIsOrdered) (stands (h .name)) (stands (h .metadata))
+    named h st = ap (λ m. eqb (m / 4 % 2) 1) (map-stands e h st) ∙ name-set h
 
     -- a name stands behind the map
     pub name-stands : {text : ℕ} → map / 4 % 2 ≡ 1 → Ahead s place 1 text → (h : Head) → Stands s place (headBytes h) → Stands s text (textBytes (h .name))
-    unfolding headBytes
-    name-stands {text} b a h st = go (h .name) (sym (named h st) ∙ eq-eqb _ 1 b) (stands-behind (skip-ahead (_ ∷ []) refl (a .1)) st)
+    unfolding frontBytes
+    name-stands {text} b a h st = go (h .name) (sym (named h st) ∙ eq-eqb _ 1 b) (stands-behind (skip-ahead (_ ∷ []) refl (a .1)) (front-stands h st))
       where
         go : (m : Bytes) → stands m ≡ true → Stands s text (part textBytes m ++ part (withCount pairBytes) (h .metadata)) → Stands s text (textBytes m)
         go [] i u = absurd (false≢true i)

@@ -6,15 +6,21 @@ use mathlib.Core.List.{List, [], _∷_, _++_}
 use mathlib.Core.Bool.{Bool, true, false, false≢true}
 use lib.ListN.{length, getD, length-append}
 use lib.Dec.{eqb}
-use Rattle.model.specs.Bytes.{Bytes, Metadata, num, u16, bit, flag}
+use Rattle.model.specs.Bytes.{Bytes, Metadata, num, u16, u64, bit, flag}
 use Rattle.model.specs.Tree.{Head, layout}
 use Rattle.model.specs.Tree.Params.{timestamp}
-use Rattle.model.specs.Sheet.{each, part, stands, withCount, textBytes, pairBytes, headBytes}
+use Rattle.model.specs.Sheet.{headMap, frontBytes, dictIdBytes, dictIdStands, each, part, stands, withCount, textBytes, pairBytes, headBytes}
+use Rattle.model.proofs.Numerals.{length-little-endian}
+use Rattle.model.proofs.MapBits.{flag-one, is-one, name-set, metadata-set, dict-id-set}
 use Rattle.model.specs.WellFormed.{WellFormedItems, WellFormedZone, WellFormedParams}
 use Rattle.walk.specs.Stands.{Stands, Skips}
 use Rattle.layout.specs.Kinds.{paramsBy}
 use Rattle.walk.specs.Widths.{widths, width}
-use Rattle.walk.proofs.Standing.{byte-stands, two-stands, skip-none, skip-ahead, skip-when, skip-join, stands-behind, num-u16}
+use Rattle.walk.proofs.Standing.{first-stands, byte-stands, two-stands, skip-none, skip-ahead, skip-when, skip-join, stands-behind, num-u16}
+
+length-u64 : (n : ℕ) → length (u64 n) ≡ 8
+unfolding u64
+length-u64 n = length-little-endian 8 n
 
 -- what `ahead` ensures
 abbrev pub Ahead : Bytes → ℕ → ℕ → ℕ → Type 0
@@ -53,30 +59,16 @@ module _ {s : Bytes} {place : ℕ} where
   part-unset f set e [] h = skip-none
   part-unset f set e (x ∷ xs) h = absurd (false≢true (sym e ∙ sym h))
 
--- The bits of a map
+  -- a dictionary number under a bit
+  pub dict-id-there : (set : Bool) (r : ℕ) → set ≡ true → Ahead s place 8 r → (n : ℕ) → dictIdStands n ≡ set → Skips s place (dictIdBytes n) r
+  dict-id-there set r e a zero h = absurd (false≢true (h ∙ e))
+  dict-id-there set r e a (suc n) h = skip-ahead (u64 (suc n)) (length-u64 (suc n)) (a .1)
 
-pub flag-one : (n : ℕ) (b : Bool) → (flag n b ≡ n * flag 1 b) × (flag 1 b ≤ 1)
-flag-one n true = (omega arith, omega arith)
-flag-one n false = (omega arith, omega arith)
+  pub dict-id-none : (set : Bool) → set ≡ false → (n : ℕ) → dictIdStands n ≡ set → Skips s place (dictIdBytes n) place
+  dict-id-none set e zero h = skip-none
+  dict-id-none set e (suc n) h = absurd (false≢true (sym e ∙ sym h))
 
-pub is-one : (n : ℕ) (b : Bool) → n ≡ flag 1 b → eqb n 1 ≡ b
-is-one n true e = ap (λ x. eqb x 1) e
-is-one n false e = ap (λ x. eqb x 1) e
-
-module _ (a b c d : Bool) where
-  pub name-bit : eqb ((flag 1 a + flag 2 b + flag 4 c + flag 8 d) / 4 % 2) 1 ≡ c
-  name-bit = is-one ((flag 1 a + flag 2 b + flag 4 c + flag 8 d) / 4 % 2) c (omega (arith, flag-one 1 a, flag-one 2 b, flag-one 4 c, flag-one 8 d))
-
-  -- the nullable bit, as a number
-  pub nullable-bit : (flag 1 a + flag 2 b + flag 4 c + flag 8 d) % 2 ≡ flag 1 a
-  nullable-bit = omega (arith, flag-one 1 a, flag-one 2 b, flag-one 4 c, flag-one 8 d)
-
-  -- the order bit, as a number
-  pub order-bit : (flag 1 a + flag 2 b + flag 4 c + flag 8 d) / 2 % 2 ≡ flag 1 b
-  order-bit = omega (arith, flag-one 1 a, flag-one 2 b, flag-one 4 c, flag-one 8 d)
-
-  pub metadata-bit : eqb ((flag 1 a + flag 2 b + flag 4 c + flag 8 d) / 8 % 2) 1 ≡ d
-  metadata-bit = is-one ((flag 1 a + flag 2 b + flag 4 c + flag 8 d) / 8 % 2) d (omega (arith, flag-one 1 a, flag-one 2 b, flag-one 4 c, flag-one 8 d))
+-- The bits of a sheet's map
 
 module _ (a b : Bool) where
   pub sheet-metadata-bit : eqb ((flag 1 a + flag 2 b) % 2) 1 ≡ a
@@ -86,17 +78,34 @@ module _ (a b : Bool) where
   sheet-columns-bit = is-one ((flag 1 a + flag 2 b) / 2 % 2) b (omega (arith, flag-one 1 a, flag-one 2 b))
 
 module _ {s : Bytes} {place : ℕ} where
-  pub head-skips : {map name metadata r : ℕ} → map ≡ getD s place 0 → Ahead s place 1 name
+  pub front-skips : {map name metadata r : ℕ} → map ≡ getD s place 0 → Ahead s place 1 name
       → ((t : Bytes) → stands t ≡ eqb (map / 4 % 2) 1 → Skips s name (part textBytes t) metadata)
       → ((m : Metadata) → stands m ≡ eqb (map / 8 % 2) 1 → Skips s metadata (part (withCount pairBytes) m) r)
-      → (h : Head) → Skips s place (headBytes h) r
-  unfolding headBytes
-  head-skips {map} e a f g h =
+      → (h : Head) → Skips s place (frontBytes h) r
+  unfolding frontBytes
+  front-skips {map} e a f g h =
       skip-when λ st.
       let w = e ∙ byte-stands st in
       skip-join (skip-ahead (_ ∷ []) refl (a .1))
-      (skip-join (f (h .name) (sym (ap (λ m. eqb (m / 4 % 2) 1) w ∙ name-bit (h .nullable) (h .dictIsOrdered) (stands (h .name)) (stands (h .metadata)))))
-      (g (h .metadata) (sym (ap (λ m. eqb (m / 8 % 2) 1) w ∙ metadata-bit (h .nullable) (h .dictIsOrdered) (stands (h .name)) (stands (h .metadata))))))
+      (skip-join (f (h .name) (sym (ap (λ m. eqb (m / 4 % 2) 1) w ∙ name-set h)))
+      (g (h .metadata) (sym (ap (λ m. eqb (m / 8 % 2) 1) w ∙ metadata-set h))))
+
+  -- a head begins with its front
+  pub front-stands : (h : Head) → Stands s place (headBytes h) → Stands s place (frontBytes h)
+  unfolding headBytes
+  front-stands h st = first-stands (frontBytes h) (dictIdBytes (h .dictId)) st
+
+  pub map-stands : {map : ℕ} → map ≡ getD s place 0 → (h : Head) → Stands s place (headBytes h) → map ≡ headMap h
+  unfolding frontBytes
+  map-stands e h st = e ∙ byte-stands (front-stands h st)
+
+  pub head-skips : {map end r : ℕ} → map ≡ getD s place 0 → ((h : Head) → Skips s place (frontBytes h) end)
+      → ((n : ℕ) → dictIdStands n ≡ eqb (map / 16 % 2) 1 → Skips s end (dictIdBytes n) r)
+      → (h : Head) → Skips s place (headBytes h) r
+  unfolding headBytes
+  head-skips e f k h =
+      skip-when λ st.
+      skip-join (f h) (k (h .dictId) (sym (ap (λ m. eqb (m / 16 % 2) 1) (map-stands e h st) ∙ dict-id-set h)))
 
 zone-bit : (m k : ℕ) → k ≡ m → bit 0 m ≡ eqb (k % 2) 1
 unfolding bit

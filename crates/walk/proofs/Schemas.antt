@@ -10,7 +10,7 @@ use borrow.Author.Tests.{eq-eqb, ne-eqb}
 use Rattle.model.specs.Numbers.{maxLevels}
 use Rattle.model.specs.Bytes.{Bytes, Metadata, u16}
 use Rattle.model.specs.Tree.{Field, Schema}
-use Rattle.model.specs.Sheet.{each, part, stands, withCount, pairBytes, headBytes, fieldBytes, typeBytes, columnBytes, sheetBytes}
+use Rattle.model.specs.Sheet.{frontBytes, dictIdBytes, each, part, stands, withCount, pairBytes, headBytes, fieldBytes, typeBytes, columnBytes, sheetBytes}
 use Rattle.walk.specs.Stands.{Stands, Skips, SkipsFields, ColumnsAt, SkipsSheet}
 use Rattle.walk.proofs.Standing.{byte-stands, stands-behind, skip-ahead, skip-join, skip-self}
 use Rattle.walk.proofs.Descents.{count-stands, elements-stand}
@@ -71,9 +71,9 @@ sheet-skips g f x w = record {
 
 -- a column takes a byte at least, so there are no more columns than bytes
 pub each-column : (fs : List (Field maxLevels)) → length fs ≤ length (each columnBytes fs)
-unfolding headBytes fieldBytes
+unfolding frontBytes headBytes fieldBytes
 each-column [] = omega arith
-each-column (f ∷ fs) = omega (arith, each-column fs, length-append (columnBytes f) (each columnBytes fs), length-append (headBytes (f .head)) (typeBytes maxLevels (f .dataType)))
+each-column (f ∷ fs) = omega (arith, each-column fs, length-append (columnBytes f) (each columnBytes fs), length-append (headBytes (f .head)) (typeBytes maxLevels (f .dataType)), length-append (frontBytes (f .head)) (dictIdBytes (f .head .dictId)))
 
 pub columns-few : {s : Bytes} {place n first : ℕ} {x : Schema} → ColumnsAt s place x n first → n ≤ length s
 columns-few {s} {place} {n} {first} {x} c = omega (arith, c .count, each-column (x .columns), c .stands .inside)

@@ -4,12 +4,12 @@
 use sheet::Cursor;
 ghost use mathlib.Core.Path.{_≡_};
 ghost use mathlib.Core.List.{_++_};
-ghost use Prim.Native.Nat.{_+_, _*_, _<_, _≤_};
+ghost use Prim.Native.Nat.{ℕ, _+_, _*_, _<_, _≤_};
 ghost use lib.ListN.{length, getD};
 ghost use Rattle.model.specs.Bytes.{Bytes, Metadata, num};
 ghost use Rattle.model.specs.Tree.{Head, Schema, layout};
 ghost use Rattle.model.specs.Tree.Params.{timestamp};
-ghost use Rattle.model.specs.Sheet.{each, withCount, part, stands, textBytes, pairBytes, headBytes, sheetBytes};
+ghost use Rattle.model.specs.Sheet.{frontBytes, dictIdBytes, dictIdStands, each, withCount, part, stands, textBytes, pairBytes, headBytes, sheetBytes};
 ghost use Rattle.model.specs.WellFormed.{WellFormedZone, WellFormedParams};
 ghost use Rattle.model.specs.Datatype.{holdsFields};
 ghost use Rattle.buffer.specs.Puts.{Puts};
@@ -118,14 +118,32 @@ pub fn skip_metadata_if(s: &[u8], at: usize, set: bool) -> usize
     at
 }
 
+// A field's dictionary number under a bit of a map.
+pub fn skip_dict_id_if(s: &[u8], at: usize, set: bool) -> usize
+    ensures { λ r. ⌜ ((n : ℕ) → dictIdStands n ≡ set → Skips (now (s .entry)) at (dictIdBytes n) r) ⌝ }
+{
+    if set {
+        return ahead(s, at, 8);
+    }
+    at
+}
+
 // A field's map, name and metadata.
-pub fn skip_head(s: &[u8], at: usize) -> usize
-    ensures { λ r. ⌜ ((h : Head) → Skips (now (s .entry)) at (headBytes h) r) ⌝ }
+pub fn skip_front(s: &[u8], at: usize) -> usize
+    ensures { λ r. ⌜ ((h : Head) → Skips (now (s .entry)) at (frontBytes h) r) ⌝ }
 {
     let map = byte(s, at);
     let name = ahead(s, at, 1);
     let metadata = skip_text_if(s, name, map / 4 % 2 == 1);
     skip_metadata_if(s, metadata, map / 8 % 2 == 1)
+}
+
+// A field's map, name, metadata and dictionary number.
+pub fn skip_head(s: &[u8], at: usize) -> usize
+    ensures { λ r. ⌜ ((h : Head) → Skips (now (s .entry)) at (headBytes h) r) ⌝ }
+{
+    let map = byte(s, at);
+    skip_dict_id_if(s, skip_front(s, at), map / 16 % 2 == 1)
 }
 
 // How many bytes parameters of a kind take, a time stamp's without its zone.

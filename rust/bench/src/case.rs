@@ -69,22 +69,24 @@ impl Case {
         }
     }
 
-    /// A case of a sheet and an equal one, read apart.
+    /// A case of two sheets, read apart.
     pub(crate) fn of_two(
         title: &str,
-        sheet: &Rc<[u8]>,
+        sheets: [&Rc<[u8]>; 2],
         port: OfTwo,
         whole: fn(&[u8], &[u8]) -> Outcome,
         alone: impl Fn(&Schema, &Schema) -> bool + 'static,
     ) -> Self {
-        let [one, other] = [(); 2].map(|()| Rc::clone(sheet));
-        let [first, second] = [(); 2].map(|()| schema(sheet));
+        let [[one, other], [first, second]] = [(); 2].map(|()| sheets.map(Rc::clone));
+        let schemas = sheets.map(|sheet| schema(sheet));
         Self {
             title: title.to_owned(),
-            bytes: 2 * sheet.len(),
-            port: Some(Box::new(move |work, answer| port(&one, &one, work, answer))),
-            whole: Box::new(move || whole(&other, &other)),
-            alone: Some(again(move || alone(&first, &second))),
+            bytes: one.len() + other.len(),
+            port: Some(Box::new(move |work, answer| {
+                port(&one, &other, work, answer)
+            })),
+            whole: Box::new(move || whole(&first, &second)),
+            alone: Some(again(move || alone(&schemas[0], &schemas[1]))),
             expected: None,
         }
     }

@@ -77,26 +77,32 @@ fn of_columns(sheet: &Rc<[u8]>, columns: usize) -> [Case; 3] {
     ]
 }
 
+fn equal(title: &str, sheets: [&Rc<[u8]>; 2]) -> Case {
+    let columns = |schema: &Schema| DataType::Struct(schema.fields.clone());
+    Case::of_two(
+        title,
+        sheets,
+        lent::equal,
+        operations::equal,
+        move |one, other| columns(one) == columns(other),
+    )
+}
+
 fn of_two(sheet: &Rc<[u8]>) -> [Case; 3] {
     let columns = |schema: &Schema| DataType::Struct(schema.fields.clone());
+    let sheets = [sheet; 2];
     [
-        Case::of_two(
-            "`equal`, to itself",
-            sheet,
-            lent::equal,
-            operations::equal,
-            move |one, other| columns(one) == columns(other),
-        ),
+        equal("`equal`, to itself", sheets),
         Case::of_two(
             "`equals_datatype`, to itself",
-            sheet,
+            sheets,
             lent::equals_datatype,
             operations::equals_datatype,
             move |one, other| columns(one).equals_datatype(&columns(other)),
         ),
         Case::of_two(
             "`contains`, itself",
-            sheet,
+            sheets,
             lent::contains,
             operations::contains,
             Schema::contains,
@@ -155,6 +161,16 @@ fn of_shape(sheet: &Rc<[u8]>, leaves: usize) -> [Case; 2] {
             |sheet| operations::normalize(sheet, b".", 0),
             |schema| drop(black_box(schema.normalize(".", Some(0)))),
         ),
+    ]
+}
+
+/// Two flat sheets of 1000 columns that differ in their dictionary numbers alone.
+pub(crate) fn numbered() -> [Case; 2] {
+    let sheets = [1, 1001].map(|first| Rc::from(inputs::numbered(1000, first)));
+    let [one, other] = &sheets;
+    [
+        equal("`equal`", [one, other]),
+        Case::of_train("`merge`", sheets.concat()),
     ]
 }
 
@@ -237,10 +253,11 @@ mod tests {
         let mut cases = flat();
         cases.extend(nested());
         cases.extend(deep());
+        cases.extend(numbered());
         cases.extend(numberings());
         cases.extend(merges());
         cases.extend(Order::BOTH.map(|order| growth(GROWTH[0], order)));
-        assert_eq!(cases.len(), 3 * 12 + 2 + 8 + 2);
+        assert_eq!(cases.len(), 3 * 12 + 2 + 2 + 8 + 2);
         for case in cases {
             assert!(case.agrees(), "{}, {} bytes", case.title, case.bytes);
         }

@@ -2,7 +2,7 @@
 
 use arrow_schema::{DataType, Field, Fields, Schema};
 use oracle::random::Random;
-use oracle::write;
+use oracle::{dict_id, write};
 
 /// Types without children or parameters, taken in turn: one byte each in a sheet.
 const TYPES: [DataType; 5] = [
@@ -50,6 +50,16 @@ fn shuffled(count: usize) -> Vec<usize> {
 /// So many plain columns.
 pub(crate) fn flat(count: usize) -> Vec<u8> {
     sheet(columns(0..count))
+}
+
+/// So many plain columns with dictionary numbers, from this one on.
+pub(crate) fn numbered(count: usize, first: i64) -> Vec<u8> {
+    let columns = columns(0..count).into_iter().zip(first..);
+    sheet(
+        columns
+            .map(|(column, dict_id)| dict_id::with(&column, dict_id))
+            .collect(),
+    )
 }
 
 /// So many structs of so many plain fields.
@@ -212,6 +222,23 @@ mod tests {
         let columns = read::sheet(&table).unwrap().schema;
         let mut columns = columns.fields().iter();
         assert!(columns.all(|column| column.dict_is_ordered() == Some(true)));
+    }
+
+    #[test]
+    fn the_dictionary_numbers_are_other_ones_and_nothing_else_is() {
+        let [one, other] = [1, 1001].map(|first| numbered(1000, first));
+        for sheet in [&one, &other] {
+            assert_eq!(read::sheet(sheet).unwrap().dict_ids, 1000);
+            assert_eq!(sheet.len(), flat(1000).len() + 8 * 1000);
+            assert_eq!(operations::equal(sheet, &flat(1000)), Ok(vec![1]));
+        }
+        let dict_ids = |sheet: &[u8]| -> Vec<i64> {
+            let schema = read::sheet(sheet).unwrap().schema;
+            let columns = schema.fields().iter();
+            columns.map(|column| dict_id::of(column)).collect()
+        };
+        assert!(dict_ids(&one).into_iter().eq(1..=1000));
+        assert!(dict_ids(&other).into_iter().eq(1001..=2000));
     }
 
     #[test]

@@ -20,7 +20,8 @@ Both sides were timed in one run of a release build, on the same bytes. Times ar
 
 The crate has no reader or writer of sheets; the oracle's are plain, and *alone / port* puts the Rust's bare operation
 beside the port's reading, operation and writing together. For `flattened_fields` the oracle looks up the offset of
-each field, and for `filter` it counts the leaves first; both are in *Rust*.
+each field, and for `filter` it counts the leaves first; both are in *Rust*. So is what its writer takes to see a field's
+dictionary number: the crate shows it on a Dictionary alone, so every other field is copied and the copy made one.
 
 The Rust has no mode \"parked log first\". In the rows of that mode the port merges in it, and what stands beside it is
 the Rust's own merge: of the same bytes where the Rust accepts them, and, where it refuses ordered dictionaries, of the
@@ -57,6 +58,10 @@ fn tables() -> Result<(), Differ> {
     table(
         "A deep sheet: 31 structs inside one another, 500 fields in the innermost",
         cases::deep(),
+    )?;
+    table(
+        "Two flat sheets of 1000 columns that differ in their dictionary numbers alone",
+        cases::numbered(),
     )?;
     table("Union numberings", cases::numberings())?;
     table("Merging, names of twenty bytes", cases::merges())?;

@@ -13,6 +13,9 @@ use std::sync::atomic::{AtomicUsize, Ordering};
 /// Random requests in one job: a batch.
 pub(crate) const JOB: usize = 500;
 
+/// One random request in so many is looked at for dictionary numbers.
+const LOOKED_AT: usize = 20;
+
 /// A part of a run.
 #[derive(Clone, Copy, Debug)]
 pub(crate) enum Job {
@@ -23,6 +26,8 @@ pub(crate) enum Job {
     /// The strings of telling bytes, one and two bytes longer than a length, that begin with
     /// a byte.
     Telling(Operation, u8, usize),
+    /// The columns that begin with a map.
+    Maps(Operation, u8),
     /// The texts up to a length that begin with a byte.
     Texts(u8, usize),
     /// All numbers of fields.
@@ -34,7 +39,8 @@ pub(crate) enum Job {
 }
 
 /// The jobs of a run: the fixed list, what is short (byte strings up to `longest` bytes, and
-/// of telling bytes up to two more, as sheets), and `count` random requests for each operation.
+/// of telling bytes up to two more, as sheets; columns of every map), and `count` random
+/// requests for each operation.
 pub(crate) fn plan(operations: &[Operation], count: usize, longest: usize) -> Vec<Job> {
     let mut jobs: Vec<Job> = operations
         .iter()
@@ -47,6 +53,7 @@ pub(crate) fn plan(operations: &[Operation], count: usize, longest: usize) -> Ve
             jobs.extend((0..=u8::MAX).map(|first| Job::Sheets(operation, first, longest)));
             let telling = short::TELLING.map(|first| Job::Telling(operation, first, longest));
             jobs.extend(telling);
+            jobs.extend((0..=u8::MAX).map(|map| Job::Maps(operation, map)));
         }
     }
     for from in (0..count).step_by(JOB) {
@@ -68,6 +75,7 @@ impl Job {
             Self::Telling(operation, first, longest) => {
                 short::telling(bench, operation, first, longest)
             }
+            Self::Maps(operation, map) => short::maps(bench, operation, map),
             Self::Texts(first, longest) => short::texts(bench, first, longest),
             Self::Counts => short::counts(bench),
             Self::Ids(longest) => short::ids(bench, longest),
@@ -75,6 +83,9 @@ impl Job {
                 let mut random = Random::new(seed);
                 (0..count).try_for_each(|turn| {
                     let (request, outcome) = generate::request(&mut random, operation, turn);
+                    if turn.is_multiple_of(LOOKED_AT) {
+                        bench.tally.look_at(&request);
+                    }
                     bench.run(&request, outcome)
                 })
             }

@@ -7,7 +7,8 @@
 //! each operation.
 //! Status 0 and the last line `compare: N requests, no difference` where both sides agree;
 //! status 1 and the first difference where they do not, or where, in a run of at least the
-//! default count, a number that an operation can give never came up.
+//! default count, a number that an operation can give never came up, or dictionary numbers came
+//! up too seldom.
 //!
 //! `compare --record FILE` writes a sample of the oracle's answers: the stored list that the
 //! program crates/replay goes through with no Rust at hand.
@@ -172,6 +173,7 @@ fn record(file: &str) -> ExitCode {
 fn judge(tally: &tally::Tally, operations: &[Operation], all: bool) -> bool {
     let strange = tally.strange(operations);
     let missing = tally.missing(operations);
+    let scarce = tally.scarce(operations);
     for (operation, number) in &strange {
         println!(
             "compare: {} gave {number}, which it cannot",
@@ -181,7 +183,10 @@ fn judge(tally: &tally::Tally, operations: &[Operation], all: bool) -> bool {
     for (operation, number) in &missing {
         println!("compare: {} never gave {number}", operation.name());
     }
-    strange.is_empty() && (missing.is_empty() || !all)
+    for operation in &scarce {
+        println!("compare: {} has few dictionary numbers", operation.name());
+    }
+    strange.is_empty() && (missing.is_empty() && scarce.is_empty() || !all)
 }
 
 #[cfg(test)]
@@ -236,6 +241,19 @@ mod tests {
         assert!(judge(&tally, &operations, true));
         tally.add(Operation::TryFromFields, 32, &[]);
         assert!(!judge(&tally, &operations, false));
+    }
+
+    #[test]
+    fn few_dictionary_numbers_fail_a_run_of_the_default_count_alone() {
+        let operations = [Operation::IsNested];
+        let mut tally = tally::Tally::new();
+        let numbers = Operation::IsNested.numbers().into_iter();
+        numbers.for_each(|number| tally.add(Operation::IsNested, number, &[]));
+        assert!(judge(&tally, &operations, false));
+        assert!(!judge(&tally, &operations, true));
+        let sheet = vec![2, 1, 0, 16, 1, 0, 0, 0, 0, 0, 0, 0, 2];
+        tally.look_at(&request::Request::new(Operation::IsNested, sheet));
+        assert!(judge(&tally, &operations, true));
     }
 
     #[test]

@@ -1,8 +1,8 @@
 //! The stored answers: a sample of the requests of a run, with what the oracle leaves, for
 //! the program crates/replay, whose first lines say how the list is laid out.
 //!
-//! For each operation the fixed list and then random requests of a fixed seed are gone
-//! through, and of each the first few that give a number are kept, so that every number of
+//! For each operation each part of the fixed list and then random requests of a fixed seed are
+//! gone through, and of each the first few that give a number are kept, so that every number of
 //! every operation is there. Bytes are stored with their long runs counted, so that sheets
 //! and answers around 65,535 bytes are short.
 
@@ -16,8 +16,8 @@ use std::cell::RefCell;
 use std::collections::{BTreeMap, BTreeSet};
 use std::rc::Rc;
 
-/// Of the fixed list, and of the random requests, so many accepted requests and so many
-/// refusals of each number are kept.
+/// Of each part of the fixed list, and of the random requests, so many accepted requests and so
+/// many refusals of each number are kept.
 const ACCEPTED: usize = 120;
 const REFUSED: usize = 16;
 /// Random requests gone through for each operation.
@@ -37,7 +37,7 @@ const RUN: usize = 8;
 struct Kept {
     bytes: Vec<u8>,
     count: u16,
-    /// How many of the fixed list, or of the random requests, gave each number.
+    /// How many of a part of the fixed list, or of the random requests, gave each number.
     of_number: BTreeMap<u8, usize>,
     numbers: BTreeSet<u8>,
 }
@@ -98,8 +98,10 @@ pub(crate) fn list() -> Result<Vec<u8>, Vec<(Operation, u8)>> {
 /// Makes the requests of an operation, the fixed ones, then random ones.
 fn run_through(operation: Operation, kept: &Rc<RefCell<Kept>>) {
     let mut bench = Bench::new(Box::new(Recorder(kept.clone())));
-    fixed::run(&mut bench, operation).expect("the oracle beside itself");
-    kept.borrow_mut().of_number.clear();
+    for part in fixed::PARTS {
+        part(&mut bench, operation).expect("the oracle beside itself");
+        kept.borrow_mut().of_number.clear();
+    }
     let mut random = Random::new(operation as u64);
     for turn in 0..RANDOM {
         let (request, outcome) = generate::request(&mut random, operation, turn);

@@ -2,6 +2,7 @@
 
 use oracle::number as n;
 use oracle::operations::{self, Outcome};
+use oracle::read;
 
 /// The calls that are compared.
 #[derive(Clone, Copy, Debug, PartialEq, Eq)]
@@ -224,6 +225,20 @@ impl Request {
             Takes::IdsAndCount | Takes::Count => 0,
             _ => self.first.len(),
         }
+    }
+
+    /// How many dictionary numbers its sheets have; none where one of them does not read.
+    pub(crate) fn dict_ids(&self) -> usize {
+        let sheets = match self.operation.takes() {
+            Takes::IdsAndCount | Takes::Count => return 0,
+            Takes::TrainAndMode => read::train(&self.first),
+            Takes::TwoSheets => {
+                read::two(&self.first, &self.second).map(|(one, other)| vec![one, other])
+            }
+            _ => read::sheet(&self.first).map(|sheet| vec![sheet]),
+        };
+        let sheets = sheets.into_iter().flatten();
+        sheets.map(|sheet| sheet.dict_ids).sum()
     }
 
     /// The mode of a merge.

@@ -1,6 +1,6 @@
 //! Everything that is short: all byte strings up to 3 bytes, and all of 4 and 5 telling bytes,
-//! as sheets, all texts of up to 4 telling bytes as a name, all lists of up to 2 ids, all
-//! counts.
+//! as sheets, columns of every map with telling dictionary numbers, all texts of up to 4 telling
+//! bytes as a name, all lists of up to 2 ids, all counts.
 
 use crate::bench::{Bench, Difference};
 use crate::request::{Operation, Request, Takes};
@@ -14,6 +14,26 @@ pub(crate) const LONGEST: usize = 3;
 pub(crate) const TELLING: [u8; 20] = [
     0, 1, 2, 3, 4, 5, 8, 13, 16, 24, 27, 32, 33, 34, 39, 40, 41, 127, 128, 255,
 ];
+
+/// Dictionary numbers as they are stored: 0, each byte alone, the ends, and every bit.
+const DICT_IDS: [u64; 12] = [
+    0,
+    1,
+    1 << 8,
+    1 << 16,
+    1 << 24,
+    1 << 32,
+    1 << 40,
+    1 << 48,
+    1 << 56,
+    1 << 63,
+    u64::MAX >> 1,
+    u64::MAX,
+];
+
+/// What may follow a dictionary number: Dictionary, which may be ordered, Null, another type, a
+/// code that is none, and nothing.
+const TYPES: [&[u8]; 5] = [&[34, 2, 24], &[0], &[2], &[41], &[]];
 
 /// Every byte that stands at an edge of RFC 3629's table.
 pub(crate) const TEXT_BYTES: [u8; 24] = [
@@ -99,6 +119,46 @@ pub(crate) fn telling(
     )
 }
 
+/// Columns that have this map and the parts that it says: each dictionary number with each type,
+/// and one of them cut at every byte. Unknown bits say nothing.
+pub(crate) fn maps(
+    bench: &mut Bench,
+    operation: Operation,
+    map: u8,
+) -> Result<(), Box<Difference>> {
+    let mut request = wanting(operation);
+    request.answer = 40;
+    let dict_ids = match map & 16 {
+        0 => &DICT_IDS[..1],
+        _ => &DICT_IDS[..],
+    };
+    for &dict_id in dict_ids {
+        for data_type in TYPES {
+            let sheet = with_parts(map, dict_id, data_type);
+            with_sheet(bench, &mut request, &sheet)?;
+        }
+    }
+    let whole = with_parts(map, 1, TYPES[0]);
+    (0..whole.len()).try_for_each(|bytes| with_sheet(bench, &mut request, &whole[..bytes]))
+}
+
+/// The sheet of a column of this map, with what stands where its bits do, then this type.
+fn with_parts(map: u8, dict_id: u64, data_type: &[u8]) -> Vec<u8> {
+    let parts: [(u8, &[u8]); 3] = [
+        (4, &[1, 0, b'v']),
+        (8, &[1, 0, 0, 0, 0, 0]),
+        (16, &dict_id.to_le_bytes()),
+    ];
+    let mut sheet = vec![2, 1, 0, map];
+    for (bit, part) in parts {
+        if map & bit != 0 {
+            sheet.extend(part);
+        }
+    }
+    sheet.extend(data_type);
+    sheet
+}
+
 /// Every text of at most so many telling bytes that begins with this one, as a column's name.
 pub(crate) fn texts(bench: &mut Bench, first: u8, longest: usize) -> Result<(), Box<Difference>> {
     let mut request = Request::new(Operation::IsNested, Vec::new());
@@ -158,4 +218,45 @@ pub(crate) fn ids(bench: &mut Bench, longest: usize) -> Result<(), Box<Differenc
             run(bench, &mut request)
         })
     })
+}
+
+#[cfg(test)]
+mod tests {
+    use super::*;
+    use crate::side::Oracle;
+    use oracle::read;
+
+    #[test]
+    fn known_maps_are_read_with_every_dictionary_number_but_0_and_others_are_2() {
+        for map in 0..=u8::MAX {
+            let numbers = DICT_IDS.map(|dict_id| {
+                let read = read::sheet(&with_parts(map, dict_id, TYPES[0]));
+                read.map_or_else(|refusal| (refusal.number, refusal.place), |_| (0, 0))
+            });
+            let stored_0 = match map {
+                0..16 => (0, 0),
+                16..32 => (2, with_parts(map, 0, &[]).len() - 8),
+                _ => (2, 3),
+            };
+            assert_eq!(numbers[0], stored_0, "{map}");
+            let others = if map < 32 { (0, 0) } else { (2, 3) };
+            assert!(numbers[1..].iter().all(|&number| number == others), "{map}");
+        }
+    }
+
+    #[test]
+    fn every_map_is_tried_with_every_dictionary_number_where_it_has_one_and_cut_at_every_byte() {
+        let mut bench = Bench::new(Box::new(Oracle));
+        for map in 0..=u8::MAX {
+            maps(&mut bench, Operation::IsNested, map).unwrap();
+        }
+        let (numbers, types) = (DICT_IDS.len() as u64, TYPES.len() as u64);
+        // name, metadata and dictionary number have 3, 6 and 8 bytes, in half the maps each
+        let cuts = 256 * 7 + 128 * (3 + 6 + 8);
+        assert_eq!(bench.tally.requests(), 128 * (1 + numbers) * types + cuts);
+        // of the types read under a known map one alone is read under the ordered ones too
+        let read = |numbers: u64| (16 + 8 + 8) * numbers;
+        let accepted = read(1) + read(numbers - 1);
+        assert_eq!(bench.tally.count(Operation::IsNested, 0), accepted);
+    }
 }

@@ -1,6 +1,7 @@
-//! How many requests each operation had, and how often each number came up.
+//! How many requests each operation had, how often each number came up, and whether dictionary
+//! numbers did.
 
-use crate::request::{Operation, Takes};
+use crate::request::{Operation, Request, Takes};
 use std::fmt;
 
 /// One more than the largest number of document 01's table.
@@ -12,7 +13,13 @@ pub(crate) struct Tally {
     counts: [[u64; NUMBERS]; Operation::ALL.len()],
     /// Of the accepted requests for a verdict on two sheets, those that say yes.
     yes: [u64; Operation::ALL.len()],
+    /// The requests that were looked at, and of these the ones that have dictionary numbers.
+    looked_at: [u64; Operation::ALL.len()],
+    with_dict_ids: [u64; Operation::ALL.len()],
 }
+
+/// Of the requests that are looked at, one in so many at least must have dictionary numbers.
+const SCARCE: u64 = 10;
 
 impl Tally {
     /// No requests yet.
@@ -20,6 +27,8 @@ impl Tally {
         Self {
             counts: [[0; NUMBERS]; Operation::ALL.len()],
             yes: [0; Operation::ALL.len()],
+            looked_at: [0; Operation::ALL.len()],
+            with_dict_ids: [0; Operation::ALL.len()],
         }
     }
 
@@ -31,16 +40,23 @@ impl Tally {
         }
     }
 
+    /// Looks whether the request has dictionary numbers.
+    pub(crate) fn look_at(&mut self, request: &Request) {
+        let operation = request.operation as usize;
+        self.looked_at[operation] += 1;
+        self.with_dict_ids[operation] += u64::from(request.dict_ids() > 0);
+    }
+
     /// Adds the counts of another part.
     pub(crate) fn join(&mut self, other: &Self) {
-        for (counts, more) in self.counts.iter_mut().zip(&other.counts) {
-            for (count, more) in counts.iter_mut().zip(more) {
-                *count += more;
-            }
-        }
-        for (count, more) in self.yes.iter_mut().zip(&other.yes) {
-            *count += more;
-        }
+        let add = |counts: &mut [u64], more: &[u64]| {
+            let counts = counts.iter_mut().zip(more);
+            counts.for_each(|(count, more)| *count += more);
+        };
+        add(self.counts.as_flattened_mut(), other.counts.as_flattened());
+        add(&mut self.yes, &other.yes);
+        add(&mut self.looked_at, &other.looked_at);
+        add(&mut self.with_dict_ids, &other.with_dict_ids);
     }
 
     /// All requests.
@@ -66,6 +82,16 @@ impl Tally {
     /// The numbers that came up at an operation that cannot give them.
     pub(crate) fn strange(&self, operations: &[Operation]) -> Vec<(Operation, u8)> {
         self.select(operations, |came_up, can| came_up && !can)
+    }
+
+    /// The operations on sheets of whose requests too few have dictionary numbers: a comparison
+    /// that lost them would show nothing of them.
+    pub(crate) fn scarce(&self, operations: &[Operation]) -> Vec<Operation> {
+        let few = |&operation: &Operation| {
+            let at = operation as usize;
+            operation.takes().sheets() && SCARCE * self.with_dict_ids[at] <= self.looked_at[at]
+        };
+        operations.iter().copied().filter(few).collect()
     }
 
     fn select(
@@ -106,6 +132,14 @@ impl fmt::Display for Tally {
                 0 => {}
                 yes => write!(f, " (yes: {yes})")?,
             }
+            let looked_at = self.looked_at[operation as usize];
+            if operation.takes().sheets() && looked_at > 0 {
+                let with = self.with_dict_ids[operation as usize];
+                write!(
+                    f,
+                    " (with dictionary numbers: {with} of {looked_at} looked at)"
+                )?;
+            }
             writeln!(f)?;
         }
         Ok(())
@@ -144,6 +178,27 @@ mod tests {
         let printed = tally.to_string();
         assert_eq!(printed.matches(" 0: 3 (yes: 2)\n").count(), 1, "{printed}");
         assert_eq!(printed.matches(" 0: 3\n").count(), 1, "{printed}");
+    }
+
+    #[test]
+    fn few_dictionary_numbers_are_found() {
+        let operations = [Operation::IsNested, Operation::Equal, Operation::TryNew];
+        let request = |first: &[u8]| Request::new(Operation::IsNested, first.to_vec());
+        let with = request(&[2, 1, 0, 16, 1, 0, 0, 0, 0, 0, 0, 0, 2]);
+        let without = request(&[2, 1, 0, 0, 2]);
+        let mut tally = Tally::new();
+        assert_eq!(tally.scarce(&operations), operations[..2]);
+        tally.look_at(&with);
+        (0..8).for_each(|_| tally.look_at(&without));
+        assert_eq!(tally.scarce(&operations), [Operation::Equal]);
+        let mut other = Tally::new();
+        other.look_at(&without);
+        tally.join(&other);
+        assert_eq!(tally.scarce(&operations), operations[..2]);
+        tally.add(Operation::IsNested, 0, &[0]);
+        let printed = tally.to_string();
+        let end = " 0: 1 (with dictionary numbers: 1 of 10 looked at)\n";
+        assert!(printed.ends_with(end), "{printed}");
     }
 
     #[test]

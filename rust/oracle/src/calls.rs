@@ -30,7 +30,7 @@ pub fn equal(sheet: &[u8], other: &[u8], work: &mut [u8], answer: &mut [u8]) -> 
     on_sheets(total(&[sheet, other]), outcome, work, answer)
 }
 
-/// Equality of two sheets but for names, metadata and order flags: one byte.
+/// Equality of two sheets but for names, metadata, order flags and dictionary numbers: one byte.
 pub fn equals_datatype(sheet: &[u8], other: &[u8], work: &mut [u8], answer: &mut [u8]) -> Exit {
     let outcome = operations::equals_datatype(sheet, other);
     on_sheets(total(&[sheet, other]), outcome, work, answer)

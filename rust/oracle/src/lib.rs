@@ -5,6 +5,7 @@
 //! Nothing here is taken from the port, so that both can be held against each other:
 //!
 //! - [`read`] and [`write`](mod@write) turn sheets into the crate's schemas and back;
+//! - [`dict_id`] sees and sets the dictionary number of a field of any type;
 //! - [`operations`] gives the outcome of each operation: the answer's bytes, or a refusal;
 //! - [`call`] adds the lent buffers: the order of 32, the outcome, 30 and 31, and what each
 //!   buffer holds at exit;
@@ -16,6 +17,7 @@
 pub mod call;
 pub mod calls;
 mod cursor;
+pub mod dict_id;
 pub mod limits;
 pub mod number;
 pub mod operations;

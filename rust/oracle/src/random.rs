@@ -8,10 +8,14 @@ use arrow_schema::{
     UnionMode,
 };
 
+use crate::dict_id;
+
 /// Names of fields, the empty one among them.
 const NAMES: [&str; 8] = ["", "a", "b", "c", "ab", "item", "é", "v.a"];
 /// Keys of metadata; an empty key and a key that begins another are among them.
 const KEYS: [&str; 6] = ["", "k", "k1", "l", "é", "\u{10ffff}"];
+/// Dictionary numbers: both ends, both signs, and bits of a lower and of a higher byte alone.
+const DICT_IDS: [i64; 7] = [1, 2, -1, 256, 1 << 32, i64::MAX, i64::MIN];
 /// Values of metadata.
 const VALUES: [&str; 3] = ["", "1", "2"];
 /// Time zones; the empty one differs from none.
@@ -120,9 +124,17 @@ pub fn data_type(random: &mut Random, levels: usize) -> DataType {
 fn around(random: &mut Random, data_type: impl FnOnce(&mut Random) -> DataType) -> Field {
     let (name, nullable, ordered) = (name(random), random.once_in(2), random.once_in(2));
     let metadata = metadata(random);
-    Field::new(name, data_type(random), nullable)
-        .with_dict_is_ordered(ordered)
-        .with_metadata(metadata)
+    let dict_id = dict_id(random);
+    dict_id::field(name, data_type(random), nullable, dict_id, ordered).with_metadata(metadata)
+}
+
+/// A dictionary number, none (0) most of the time.
+pub fn dict_id(random: &mut Random) -> i64 {
+    match random.below(16) {
+        0 => random.next().cast_signed(),
+        1..4 => random.pick(&DICT_IDS),
+        _ => 0,
+    }
 }
 
 fn fields(random: &mut Random, count: usize, levels: usize) -> Fields {

@@ -9,6 +9,7 @@ use arrow_schema::{
 };
 
 use crate::cursor::{Cursor, Item};
+use crate::dict_id;
 use crate::limits::{LARGEST_ID, LEVELS, TRAIN_SHEETS};
 use crate::number::{
     BYTES_LEFT, ID_ABOVE_127, ID_REPEATED, KEY_ORDER, NOT_UTF8, TOO_DEEP, TRAIN_TOO_LONG, UNKNOWN,
@@ -27,6 +28,8 @@ pub struct Sheet {
     /// The offset in the sheet of each field's map, in layout order: a field before the
     /// fields that its type holds, keys and run ends included.
     pub places: Vec<usize>,
+    /// How many of its fields have a dictionary number.
+    pub dict_ids: usize,
 }
 
 /// Reads a single sheet: 8 where bytes are left after it.
@@ -66,16 +69,20 @@ fn one(input: &[u8], start: usize) -> Result<(Sheet, usize), Refusal> {
     let mut reader = Reader {
         cursor: Cursor::new(input, start),
         places: Vec::new(),
+        dict_ids: 0,
     };
-    let schema = reader.schema()?;
-    let end = reader.cursor.at();
-    let places = reader.places;
-    Ok((Sheet { schema, places }, end))
+    let read = Sheet {
+        schema: reader.schema()?,
+        places: reader.places,
+        dict_ids: reader.dict_ids,
+    };
+    Ok((read, reader.cursor.at()))
 }
 
 struct Reader<'a> {
     cursor: Cursor<'a>,
     places: Vec<usize>,
+    dict_ids: usize,
 }
 
 impl<'a> Reader<'a> {
@@ -103,18 +110,33 @@ impl<'a> Reader<'a> {
     fn field(&mut self, level: usize) -> Result<Field, Refusal> {
         let map = self.cursor.item(1)?;
         map.need(level <= LEVELS, TOO_DEEP)?;
-        map.need(map.byte() <= 0b1111, UNKNOWN)?;
+        map.need(map.byte() <= 0b1_1111, UNKNOWN)?;
         self.places.push(map.place - self.cursor.start());
-        let [nullable, ordered, named, described] = [1, 2, 4, 8].map(|bit| map.byte() & bit != 0);
+        let [nullable, ordered, named, described, numbered] =
+            [1, 2, 4, 8, 16].map(|bit| map.byte() & bit != 0);
         let name = match named {
             false => "",
             true => self.name()?,
         };
         let metadata = self.metadata_if(described)?;
+        let dict_id = match numbered {
+            false => 0,
+            true => self.dict_id()?,
+        };
         let data_type = self.data_type(level, ordered)?;
-        Ok(Field::new(name, data_type, nullable)
-            .with_dict_is_ordered(ordered)
-            .with_metadata(metadata))
+        let mut field = dict_id::field(name, data_type, nullable, dict_id, ordered);
+        field.set_metadata(metadata);
+        Ok(field)
+    }
+
+    /// A dictionary number under a standing bit: 0 is refused with 2.
+    fn dict_id(&mut self) -> Result<i64, Refusal> {
+        let item = self.cursor.item(8)?;
+        let bytes = item.bytes.try_into().expect("an item of eight bytes");
+        let dict_id = i64::from_le_bytes(bytes);
+        item.need(dict_id != 0, UNKNOWN)?;
+        self.dict_ids += 1;
+        Ok(dict_id)
     }
 
     fn name(&mut self) -> Result<&'a str, Refusal> {

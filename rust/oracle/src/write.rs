@@ -2,6 +2,7 @@
 
 use arrow_schema::{DataType, Field, Fields, IntervalUnit, Metadata, Schema, TimeUnit, UnionMode};
 
+use crate::dict_id;
 use crate::limits::SHEET_BYTES;
 
 /// The schema has no sheet: it would be above 65,535 bytes, or (in [`layout`]) a count or
@@ -14,10 +15,11 @@ pub struct TooLong;
 /// How deep fields stand is not looked at: a schema of 33 levels gives bytes that no reader
 /// accepts.
 pub fn sheet(schema: &Schema) -> Result<Vec<u8>, TooLong> {
-    if length(schema) > SHEET_BYTES as u64 {
-        return Err(TooLong);
+    // what a u16 cannot count is past the limit too
+    match layout(schema)? {
+        long if long.len() > SHEET_BYTES => Err(TooLong),
+        sheet => Ok(sheet),
     }
-    layout(schema)
 }
 
 /// The schema in the layout of a sheet, however long the whole becomes: for trials past the
@@ -52,7 +54,11 @@ fn field_length(field: &Field) -> u64 {
         0 => 0,
         bytes => 2 + bytes,
     };
-    1 + name + metadata_length(field.metadata()) + type_length(field.data_type())
+    let dict_id = match dict_id::of(field) {
+        0 => 0,
+        _ => 8,
+    };
+    1 + name + metadata_length(field.metadata()) + dict_id + type_length(field.data_type())
 }
 
 fn metadata_length(metadata: &Metadata) -> u64 {
@@ -121,11 +127,13 @@ fn fields(out: &mut Vec<u8>, fields: &Fields) -> Result<(), TooLong> {
 }
 
 fn field(out: &mut Vec<u8>, field: &Field) -> Result<(), TooLong> {
+    let dict_id = dict_id::of(field);
     let bits = [
         field.is_nullable(),
         field.dict_is_ordered() == Some(true),
         !field.name().is_empty(),
         !field.metadata().is_empty(),
+        dict_id != 0,
     ];
     let map = (0..).zip(bits).map(|(bit, stands)| u8::from(stands) << bit);
     out.push(map.sum());
@@ -133,6 +141,9 @@ fn field(out: &mut Vec<u8>, field: &Field) -> Result<(), TooLong> {
         string(out, field.name())?;
     }
     metadata(out, field.metadata())?;
+    if dict_id != 0 {
+        out.extend(dict_id.to_le_bytes());
+    }
     type_(out, field.data_type())
 }
 

@@ -7,7 +7,7 @@ use arrow_schema::{DataType, Field, Metadata, Schema, UnionMode};
 use common::{col, dictionary, hex, list, refused, sheet, structure, train, union, v};
 use oracle::operations::{self, Mode, Outcome};
 use oracle::random::{self, Random};
-use oracle::{Refusal, calls, read, write};
+use oracle::{Refusal, calls, dict_id, read, write};
 use std::collections::HashMap;
 use std::sync::Arc;
 
@@ -252,9 +252,9 @@ fn field(random: &mut Random, levels: usize) -> Field {
         10 => large_list(child(random)),
         _ => random::data_type(random, levels),
     };
-    let name = random.pick(&["a", "b", "c"]);
-    let field = Field::new(name, data_type, random.once_in(4));
-    let field = field.with_dict_is_ordered(random.once_in(2));
+    let (name, nullable) = (random.pick(&["a", "b", "c"]), random.once_in(4));
+    let (dict_id, ordered) = (random::dict_id(random), random.once_in(2));
+    let field = dict_id::field(name, data_type, nullable, dict_id, ordered);
     described(random, field)
 }
 
@@ -278,14 +278,22 @@ fn logged(random: &mut Random, machine: &Schema) -> Schema {
     Schema::new_with_metadata(columns, metadata)
 }
 
-/// The field as one log has it: Null at times, with another order flag or type now and then.
+/// The field as one log has it: Null at times, with another order flag, type or dictionary
+/// number now and then.
 fn recorded(random: &mut Random, field: &Field) -> Field {
+    let field = &match random.once_in(4) {
+        true => dict_id::with(field, random::dict_id(random)),
+        false => field.clone(),
+    };
     let of = |random: &mut Random, data_type| {
         let field = field.clone().with_data_type(data_type);
         described(random, field)
     };
     match random.below(32) {
-        0..9 => Field::new(field.name(), DataType::Null, random.once_in(4)),
+        0..9 => {
+            let (nullable, dict_id) = (random.once_in(4), dict_id::of(field));
+            dict_id::field(field.name(), DataType::Null, nullable, dict_id, false)
+        }
         9 => {
             let ordered = field.dict_is_ordered() != Some(true);
             field.clone().with_dict_is_ordered(ordered)
@@ -376,10 +384,32 @@ enum Step {
     LargeListed,
 }
 
-/// For each way down from the columns: the order flag of the first field there whose type is
-/// not Null, in the order of the train. The merge meets the fields of one way in this order,
-/// those that fold inside one sheet or one struct among them.
-type Flags = HashMap<Vec<Step>, bool>;
+/// Every field that the merge can meet, each with the way down to it, in the order of the
+/// train. The merge meets the fields of one way in this order, those that fold inside one
+/// sheet or one struct among them.
+fn met(sheets: &[read::Sheet]) -> Vec<(Vec<Step>, &Field)> {
+    let mut met = Vec::new();
+    for sheet in sheets {
+        for column in sheet.schema.fields() {
+            meet(&mut met, vec![named(column)], column);
+        }
+    }
+    met
+}
+
+fn meet<'a>(met: &mut Vec<(Vec<Step>, &'a Field)>, way: Vec<Step>, field: &'a Field) {
+    match field.data_type() {
+        DataType::Struct(children) => {
+            for child in children {
+                meet(met, below(&way, named(child)), child);
+            }
+        }
+        DataType::List(child) => meet(met, below(&way, Step::Listed), child),
+        DataType::LargeList(child) => meet(met, below(&way, Step::LargeListed), child),
+        _ => {}
+    }
+    met.push((way, field));
+}
 
 fn named(field: &Field) -> Step {
     Step::Named(field.name().clone())
@@ -389,20 +419,53 @@ fn below(way: &[Step], step: Step) -> Vec<Step> {
     [way, &[step]].concat()
 }
 
-fn note(flags: &mut Flags, way: Vec<Step>, field: &Field) {
-    match field.data_type() {
-        DataType::Null => return,
-        DataType::Struct(children) => {
-            for child in children {
-                note(flags, below(&way, named(child)), child);
+/// For each way down: the order flag of the first field there whose type is not Null.
+type Flags = HashMap<Vec<Step>, bool>;
+
+fn flags(sheets: &[read::Sheet]) -> Flags {
+    let mut flags = Flags::new();
+    for (way, field) in met(sheets) {
+        if !field.data_type().is_null() {
+            let ordered = field.dict_is_ordered() == Some(true);
+            flags.entry(way).or_insert(ordered);
+        }
+    }
+    flags
+}
+
+/// For each way down: the dictionary number of the first field there, Null or not.
+fn first_dict_ids(sheets: &[read::Sheet]) -> HashMap<Vec<Step>, i64> {
+    let mut first = HashMap::new();
+    for (way, field) in met(sheets) {
+        first.entry(way).or_insert_with(|| dict_id::of(field));
+    }
+    first
+}
+
+#[test]
+fn in_both_modes_the_dictionary_number_of_the_first_field_stays() {
+    let [mut taken, mut different] = [0; 2];
+    for sheets in trains(4, TRAINS) {
+        let logs = read::train(&train(&sheets)).unwrap();
+        let first = first_dict_ids(&logs);
+        for mode in [Mode::AsTheRust, Mode::ParkedFirst] {
+            let Ok(table) = operations::merge(&train(&sheets), mode) else {
+                continue;
+            };
+            let table = read::train(&table).unwrap();
+            for (way, dict_id) in first_dict_ids(&table) {
+                assert_eq!(first[&way], dict_id, "{way:?}");
+                taken += usize::from(dict_id != 0);
             }
         }
-        DataType::List(child) => note(flags, below(&way, Step::Listed), child),
-        DataType::LargeList(child) => note(flags, below(&way, Step::LargeListed), child),
-        _ => {}
+        let others = met(&logs).into_iter();
+        let mut others = others.filter(|(way, field)| first[way] != dict_id::of(field));
+        different += usize::from(others.next().is_some());
     }
-    let ordered = field.dict_is_ordered() == Some(true);
-    flags.entry(way).or_insert(ordered);
+    assert!(
+        taken > TRAINS / 2 && different > TRAINS / 10,
+        "{taken} {different}"
+    );
 }
 
 /// The field with those flags at every Null. The Rust lets a Null have one that was a
@@ -436,12 +499,7 @@ fn with_flags(flags: &Flags, way: Vec<Step>, field: &Field) -> Field {
 /// there. The flags of Nulls that are left are not written.
 fn by_the_rust_with_flags(train: &[u8]) -> Outcome {
     let sheets = read::train(train)?;
-    let mut flags = Flags::new();
-    for sheet in &sheets {
-        for column in sheet.schema.fields() {
-            note(&mut flags, vec![named(column)], column);
-        }
-    }
+    let flags = flags(&sheets);
     let mut taken = 0;
     let schemas = sheets.into_iter().map(|sheet| {
         taken += 1;

@@ -47,6 +47,11 @@ fn bytes_that_end_inside_an_item_are_1() {
         ("02 0100 04 0100", 1, 6),
         ("02 0100 04 0100 76", 1, 7),
         ("02 0100 08", 1, 4),
+        ("02 0100 10", 1, 4),
+        ("02 0100 10 01000000000000", 1, 4),
+        ("02 0100 10 0100000000000000", 1, 12),
+        ("02 0100 1c 0100 76", 1, 7),
+        ("02 0100 1c 0100 76 0100 0000 0000", 1, 13),
         ("02 0200 0002", 1, 5),
         ("02 0100 00 0d", 1, 5),
         ("02 0100 00 0d 00", 1, 6),
@@ -80,7 +85,10 @@ fn unknown_bits_codes_and_numbers_are_2() {
     check(&[
         ("04", 2, 0),
         ("80", 2, 0),
-        ("02 0100 10", 2, 3),
+        ("02 0100 20", 2, 3),
+        ("02 0100 40", 2, 3),
+        ("02 0100 80", 2, 3),
+        ("02 0100 30 0100000000000000 02", 2, 3),
         ("02 0100 00 29", 2, 4),
         ("02 0100 00 ff", 2, 4),
         ("02 0100 00 0d 04", 2, 5),
@@ -110,6 +118,112 @@ fn a_forbidden_0_is_2_and_the_others_are_fine() {
         ("02 0100 00 20 0000", 0, 0),
         ("02 0100 00 21 01 0000", 0, 0),
     ]);
+}
+
+#[test]
+fn a_dictionary_number_stands_between_metadata_and_type_whatever_the_type_is() {
+    check(&[
+        ("02 0100 10 0100000000000000 00", 0, 0),
+        ("02 0100 10 ffffffffffffffff 02", 0, 0),
+        ("02 0100 10 ffffffffffffff7f 0d 00 00", 0, 0),
+        ("02 0100 10 0000000000000080 20 0000", 0, 0),
+        ("02 0100 10 0001000000000000 21 00 0000", 0, 0),
+        ("02 0100 10 0000000001000000 22 02 18", 0, 0),
+        ("02 0100 10 0100000000000000 28 0003 0002", 0, 0),
+        (
+            "02 0100 1f 0100 76 0100 0000 0000 0100000000000000 22 02 18",
+            0,
+            0,
+        ),
+        (
+            "02 0100 00 28 10 0100000000000000 03 10 0200000000000000 02",
+            0,
+            0,
+        ),
+        // before the name or the metadata it is taken for these
+        ("02 0100 14 ffffffffffffffff 0100 76 02", 1, 6),
+        ("02 0100 18 ffffffffffffffff 0100 0000 0000 02", 1, 8),
+        // and behind the type the type is taken for a part of it
+        ("02 0100 10 02 ffffffffffffffff", 2, 12),
+    ]);
+}
+
+#[test]
+fn a_stored_0_is_2_at_its_first_byte() {
+    check(&[
+        ("02 0100 10 0000000000000000 02", 2, 4),
+        ("02 0100 10 0000000000000000", 2, 4),
+        (
+            "02 0100 1c 0100 76 0100 0000 0000 0000000000000000 02",
+            2,
+            13,
+        ),
+        ("02 0100 00 1b 10 0000000000000000 02", 2, 6),
+        // 1 comes before it, and so does what is wrong in the name and in the metadata
+        ("02 0100 10 00000000000000", 1, 4),
+        ("02 0100 14 0100 ff 0000000000000000 02", 3, 6),
+        ("02 0100 18 0000 0000000000000000 02", 2, 4),
+        // what is wrong in the type comes behind it
+        ("02 0100 10 0000000000000000 29", 2, 4),
+        ("02 0100 10 0100000000000000 29", 2, 12),
+        ("02 0100 12 0000000000000000 02", 2, 4),
+        ("02 0100 12 0100000000000000 02", 2, 12),
+    ]);
+    // one bit, wherever it is, is enough
+    for bit in 0..64 {
+        let dict_id = (1_u64 << bit).to_le_bytes();
+        let bytes = [&hex("02 0100 10")[..], &dict_id, &[2]].concat();
+        assert_eq!(single(&bytes), (0, 0), "{bit}");
+    }
+}
+
+#[test]
+fn the_level_is_judged_at_the_map_before_a_dictionary_number() {
+    for last in ["10", "10 0000000000000000 02", "30", "ff"] {
+        let (bytes, place) = at_level(33, last);
+        assert_eq!(single(&bytes), (5, place), "{last}");
+    }
+    let (bytes, place) = at_level(32, "10 0000000000000000 02");
+    assert_eq!(single(&bytes), (2, place + 1));
+    let (bytes, place) = at_level(32, "10 0100000000000000 22 02 02");
+    assert_eq!(single(&bytes), (5, place + 10));
+    assert_eq!(single(&at_level(32, "10 0100000000000000 02").0), (0, 0));
+}
+
+/// A sheet whose one column, an Int8, has a name of so many bytes and this dictionary number:
+/// 15 bytes and the name.
+fn numbered(bytes: usize, dict_id: i64) -> Vec<u8> {
+    let mut sheet = named(bytes);
+    sheet[3] |= 16;
+    sheet.pop();
+    sheet.extend(dict_id.to_le_bytes());
+    sheet.push(2);
+    sheet
+}
+
+#[test]
+fn a_dictionary_number_across_byte_65_535_is_9_at_its_first_byte() {
+    assert_eq!(numbered(65_520, 1).len(), 65_535);
+    assert_eq!(single(&numbered(65_520, 1)), (0, 0));
+    // it ends with byte 65,535, and its type comes behind that
+    assert_eq!(single(&numbered(65_521, 1)), (9, 65_535));
+    assert_eq!(single(&numbered(65_521, 0)), (2, 65_527));
+    for past in 1..=8 {
+        let name = 65_521 + past;
+        for dict_id in [1, 0] {
+            let bytes = numbered(name, dict_id);
+            assert_eq!(single(&bytes), (9, 6 + name));
+            // 1 comes before 9
+            let cut = &bytes[..6 + name + 7];
+            assert_eq!(single(cut), (1, 6 + name));
+        }
+    }
+    assert_eq!(single(&numbered(65_530, 1)), (9, 6));
+    // in a train, and in a second sheet, places count on
+    let first = numbered(65_520, 1);
+    let later = [&first[..], &numbered(65_522, 1)].concat();
+    assert_eq!(train(&later), (9, 65_535 + 65_528));
+    assert_eq!(two(&first, &numbered(7, 0)), (2, 65_535 + 13));
 }
 
 #[test]
@@ -188,7 +302,7 @@ fn the_129th_id_of_a_union_is_6_or_7() {
 #[test]
 fn level_32_is_read_and_level_33_is_5() {
     assert_eq!(single(&at_level(32, "00 02").0), (0, 0));
-    for last in ["00 02", "10", "0f"] {
+    for last in ["00 02", "20", "0f"] {
         let (bytes, place) = at_level(33, last);
         assert_eq!(single(&bytes), (5, place), "{last}");
     }
@@ -286,4 +400,16 @@ fn the_places_are_those_of_all_maps_in_layout_order() {
     let bytes = hex("02 0300 04 0100 76 28 0003 001b 0002 00 22 1b 0002 02 00 21 00 0100 07 0002");
     let read = read::sheet(&bytes).unwrap();
     assert_eq!(read.places, [3, 8, 10, 12, 14, 17, 20, 26]);
+    assert_eq!(read.dict_ids, 0);
+}
+
+#[test]
+fn a_dictionary_number_moves_the_maps_behind_it_and_is_counted() {
+    let bytes = hex(
+        "02 0200 10 0100000000000000 20 0200 00 02 14 0100 76 0100000000000000 02 \
+         00 28 10 0200000000000000 03 0002",
+    );
+    let read = read::sheet(&bytes).unwrap();
+    assert_eq!(read.places, [3, 15, 17, 30, 32, 42]);
+    assert_eq!(read.dict_ids, 3);
 }

@@ -5,9 +5,10 @@ mod common;
 use arrow_schema::{DataType, Field, Schema};
 use common::named;
 use oracle::random::{Random, deep, schema};
-use oracle::{read, write};
+use oracle::{dict_id, read, write};
 
-/// The debug form shows what plain equality leaves out: the order flags.
+/// The debug form shows what plain equality leaves out: the order flags, and the dictionary
+/// numbers, on every type.
 fn same(one: &Schema, other: &Schema) -> bool {
     one == other && format!("{one:?}") == format!("{other:?}")
 }
@@ -27,17 +28,19 @@ fn random_schemas_come_back() {
 }
 
 #[test]
-fn every_type_comes_up() {
+fn every_type_comes_up_with_a_dictionary_number_and_without() {
     let mut random = Random::new(1);
-    let mut codes = [0; 41];
-    for _ in 0..5000 {
+    let mut codes = [[0; 41]; 2];
+    for _ in 0..10_000 {
         let column = oracle::random::field(&mut random, 3);
-        let bytes = write::sheet(&Schema::new(vec![
-            column.with_name("").with_metadata([("", ""); 0]),
-        ]));
-        codes[usize::from(bytes.unwrap()[4])] += 1;
+        let numbered = usize::from(dict_id::of(&column) != 0);
+        let plain = dict_id::with(&column, 0).with_name("");
+        let schema = Schema::new(vec![plain.with_metadata([("", ""); 0])]);
+        let bytes = write::sheet(&schema).unwrap();
+        codes[numbered][usize::from(bytes[4])] += 1;
     }
-    assert!(codes.iter().all(|&count| count > 0), "{codes:?}");
+    let mut counts = codes.iter().flatten();
+    assert!(counts.all(|&count| count > 0), "{codes:?}");
 }
 
 #[test]

@@ -87,15 +87,16 @@ calls! {
     /// Whether the type of each column is nested: writes one byte for each, 1 for yes.
     fn is_nested(sheet: &[u8], work: &mut [u8], answer: &mut [u8]) = sheets_is_nested;
 
-    /// Whether the columns of two sheets are equal: writes one byte. Order flags and schema
-    /// metadata do not count.
+    /// Whether the columns of two sheets are equal: writes one byte. Order flags, dictionary
+    /// numbers and schema metadata do not count.
     fn equal(sheet: &[u8], other: &[u8], work: &mut [u8], answer: &mut [u8]) = sheets_equal;
 
-    /// Whether the columns of two sheets are equal but for names, metadata, order flags and
-    /// the order of union children: writes one byte.
+    /// Whether the columns of two sheets are equal but for names, metadata, order flags,
+    /// dictionary numbers and the order of union children: writes one byte.
     fn equals_datatype(sheet: &[u8], other: &[u8], work: &mut [u8], answer: &mut [u8]) = sheets_equals_datatype;
 
-    /// Whether the first sheet contains the other: writes one byte.
+    /// Whether the first sheet contains the other: writes one byte. Dictionary numbers do not
+    /// count.
     fn contains(sheet: &[u8], other: &[u8], work: &mut [u8], answer: &mut [u8]) = sheets_contains;
 
     /// Numbers a union of so many fields by these ids: writes the ids. 6 and 7 give the list
@@ -105,7 +106,8 @@ calls! {
     /// Numbers a union of so many fields from 0: writes the ids, or gives 16 above 128.
     fn try_from_fields(count: u16, answer: &mut [u8]) = sheets_try_from_fields;
 
-    /// Merges a train, sheets end to end, into one sheet. No bytes are a train of no sheets.
+    /// Merges a train, sheets end to end, into one sheet. No bytes are a train of no sheets. A
+    /// field has the dictionary number of the first sheet that has the field, or none.
     ///
     /// A mode of 0 is the Rust's; every other is parked log first, and none is refused.
     /// [`Mode`](crate::Mode) says what they do, and turns into the number.
@@ -127,7 +129,8 @@ calls! {
     fn project_strict(sheet: &[u8], list: &[u8], work: &mut [u8], answer: &mut [u8]) = sheets_project_strict;
 
     /// Writes the sheet with its structs taken apart, names joined by the separator, down to a
-    /// level (0: no limit).
+    /// level (0: no limit). The columns that it writes lose metadata, order flag and dictionary
+    /// number; what lies inside their types stays.
     fn normalize(sheet: &[u8], separator: &[u8], max_level: u16, work: &mut [u8], answer: &mut [u8]) = sheets_normalize;
 
     /// Writes the sheet of the leaves that a mask keeps: byte i keeps leaf i unless it is 0.

@@ -73,7 +73,8 @@ pub fn is_nested(sheet: &[u8]) -> Result<Vec<bool>, Refusal> {
     Ok(answer.iter().map(|&byte| byte == 1).collect())
 }
 
-/// Whether the columns of two sheets are equal. Order flags and schema metadata do not count.
+/// Whether the columns of two sheets are equal. Order flags, dictionary numbers and schema
+/// metadata do not count.
 ///
 /// # Errors
 ///
@@ -82,8 +83,8 @@ pub fn equal(sheet: &[u8], other: &[u8]) -> Result<bool, Refusal> {
     verdict(lent::equal, sheet, other)
 }
 
-/// Whether the columns of two sheets are equal but for names, metadata, order flags and the
-/// order of union children.
+/// Whether the columns of two sheets are equal but for names, metadata, order flags, dictionary
+/// numbers and the order of union children.
 ///
 /// # Errors
 ///
@@ -92,7 +93,7 @@ pub fn equals_datatype(sheet: &[u8], other: &[u8]) -> Result<bool, Refusal> {
     verdict(lent::equals_datatype, sheet, other)
 }
 
-/// Whether the first sheet contains the other.
+/// Whether the first sheet contains the other. Dictionary numbers do not count.
 ///
 /// # Errors
 ///
@@ -171,7 +172,8 @@ pub fn project_strict(sheet: &[u8], list: &[u16]) -> Result<Vec<u8>, Refusal> {
 }
 
 /// The sheet with its structs taken apart, down to a level (0: no limit), and their names
-/// joined by the separator.
+/// joined by the separator. Its columns have no metadata, no order flag and no dictionary number;
+/// what lies inside their types stays.
 ///
 /// # Errors
 ///
@@ -204,6 +206,9 @@ pub fn filter(sheet: &[u8], mask: &[bool]) -> Result<Vec<u8>, Refusal> {
 /// Each slice must be one whole sheet: a slice that is cut short, or has bytes left, is
 /// refused as such, and never completed by the next one. So "sheet 1" of a refusal is
 /// always `sheets[1]`.
+///
+/// A field has the dictionary number of the first sheet that has the field, or none, even where it
+/// is Null there and takes its type from a later sheet.
 ///
 /// # Errors
 ///

@@ -134,6 +134,99 @@ fn filter() {
     assert_eq!(sheets::filter(&two[..9], &[true; 2]), refused(1, 9));
 }
 
+mod dict_ids {
+    use super::*;
+    use sheets::{Mode, merge};
+
+    /// `v:Int32` with the dictionary number 1, and with -1.
+    const ONE: [u8; 16] = numbered(20, 1, 4);
+    const MINUS: [u8; 16] = numbered(20, -1, 4);
+
+    /// A column `v` of this map, whose bit 4 stands, with this dictionary number and type.
+    const fn numbered(map: u8, dict_id: i64, code: u8) -> [u8; 16] {
+        let [a, b, c, d, e, f, g, h] = dict_id.to_le_bytes();
+        [2, 1, 0, map, 1, 0, b'v', a, b, c, d, e, f, g, h, code]
+    }
+
+    #[test]
+    fn merging_keeps_the_firsts_or_none() {
+        for mode in [Mode::AsTheRust, Mode::ParkedFirst] {
+            assert_eq!(merge(&[&ONE, &MINUS], mode), Ok(ONE.to_vec()));
+            assert_eq!(merge(&[&MINUS, &ONE], mode), Ok(MINUS.to_vec()));
+            assert_eq!(merge(&[&ONE, &PLAIN], mode), Ok(ONE.to_vec()));
+            assert_eq!(merge(&[&PLAIN, &ONE], mode), Ok(PLAIN.to_vec()));
+            // a Null that takes a type keeps its own
+            let parked = numbered(20, i64::MIN, 0);
+            let table = numbered(21, i64::MIN, 4);
+            assert_eq!(merge(&[&parked, &ONE], mode), Ok(table.to_vec()));
+            let parked = [2, 1, 0, 4, 1, 0, b'v', 0];
+            assert_eq!(merge(&[&parked, &ONE], mode), Ok(NULLABLE.to_vec()));
+        }
+    }
+
+    #[test]
+    fn parked_log_first_the_order_flag_comes_with_the_type_and_the_dictionary_number_does_not() {
+        let parked = numbered(20, 1, 0);
+        let ordered = [&numbered(22, 2, 34)[..], &[2, 24]].concat();
+        let table = [&numbered(23, 1, 34)[..], &[2, 24]].concat();
+        assert_eq!(merge(&[&parked, &ordered], Mode::ParkedFirst), Ok(table));
+        assert_eq!(merge(&[&parked, &ordered], Mode::AsTheRust), refused(20, 1));
+    }
+
+    #[test]
+    fn verdicts_and_look_ups_do_not_see_it() {
+        for [one, other] in [[&ONE[..], &MINUS], [&ONE, &PLAIN], [&PLAIN, &ONE]] {
+            assert_eq!(sheets::equal(one, other), Ok(true));
+            assert_eq!(sheets::equals_datatype(one, other), Ok(true));
+            assert_eq!(sheets::contains(one, other), Ok(true));
+        }
+        assert_eq!(sheets::contains(&ONE, &NULLABLE), Ok(false));
+        assert_eq!(sheets::is_nested(&ONE), Ok(vec![false]));
+        assert_eq!(sheets::index_of(&ONE, "v"), Ok(0));
+        let twice = sheets::project(&ONE, &[0, 0]).unwrap();
+        assert_eq!(sheets::flattened_fields(&twice), Ok(vec![3, 16]));
+    }
+
+    #[test]
+    fn projecting_and_filtering_keep_it_and_normalising_drops_a_columns_own() {
+        let twice = [&[2, 2, 0], &ONE[3..], &ONE[3..]].concat();
+        assert_eq!(sheets::project(&ONE, &[0, 0]), Ok(twice));
+        assert_eq!(sheets::project_strict(&ONE, &[0]), Ok(ONE.to_vec()));
+        assert_eq!(sheets::filter(&ONE, &[true]), Ok(ONE.to_vec()));
+        assert_eq!(sheets::normalize(&ONE, ".", 0), Ok(PLAIN.to_vec()));
+        // a struct that loses a child keeps its own
+        let structure = |children: &[&[u8]]| {
+            let count = [children.len() as u8, 0];
+            [&numbered(20, 7, 32)[..], &count, &children.concat()].concat()
+        };
+        let both = structure(&[&ONE[3..], &PLAIN[3..]]);
+        let one = structure(&[&ONE[3..]]);
+        assert_eq!(sheets::filter(&both, &[true, false]), Ok(one));
+        // normalising does not take a list apart
+        let list = [&numbered(20, 7, 27)[..], &ONE[3..]].concat();
+        let plain = [&[2, 1, 0, 4, 1, 0, b'v', 27][..], &ONE[3..]].concat();
+        assert_eq!(sheets::normalize(&list, ".", 0), Ok(plain));
+    }
+
+    #[test]
+    fn a_stored_0_and_an_unknown_bit_are_2_and_a_cut_is_1() {
+        let refusal = sheets::is_nested(&numbered(20, 0, 4)).unwrap_err();
+        assert_eq!(refusal, Refusal::new(2, 7));
+        assert!(refusal.to_string().contains("a 0 stands where none may"));
+        for unknown in [32, 64, 128] {
+            let sheet = numbered(20 + unknown, 1, 4);
+            assert_eq!(sheets::is_nested(&sheet), refused(2, 3));
+        }
+        for bytes in 7..15 {
+            assert_eq!(sheets::is_nested(&ONE[..bytes]), refused(1, 7));
+        }
+        // of two sheets, and in a train, the place counts on
+        assert_eq!(sheets::equal(&ONE, &numbered(20, 0, 4)), refused(2, 23));
+        let broken = numbered(20, 0, 4);
+        assert_eq!(merge(&[&ONE, &broken], Mode::AsTheRust), refused(2, 23));
+    }
+}
+
 mod merging {
     use super::*;
     use sheets::{Mode, merge, merge_train};

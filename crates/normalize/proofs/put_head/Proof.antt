@@ -8,12 +8,12 @@ use Rattle.normalize.proofs.put_head.Tie as tie
 
 returns : tie.Need-returns
 returns c hs h a st =
-    head-unnamed (h .nullable) _ (c .before .before .before .before .before .name-length .ensures hs h a st) (c .before .before .before .before .if1 .taken) (nullable-stands (c .before .before .before .before .before .before .byte .ensures .0) h st) (c .before .before .put-one .ensures)
+    head-unnamed h _ (c .before .before .before .before .before .name-length .ensures hs h a st) (c .before .before .before .before .if1 .taken) (nullable-stands (c .before .before .before .before .before .before .byte .ensures .0) h st) (c .before .before .put-one .ensures)
 
 returns-2 : tie.Need-returns-2
 returns-2 c hs h a st =
     let n = c .before .before .before .before .before .before .before .before .before .before .before .before .before in
-    head-named (h .nullable) _ (n .name-length .ensures hs h a st) (c .before .before .before .before .before .before .before .before .before .before .before .before .if1 .left) (omega (arith, nullable-stands (n .before .byte .ensures .0) h st))
+    head-named h _ (n .name-length .ensures hs h a st) (c .before .before .before .before .before .before .before .before .before .before .before .before .if1 .left) (omega (arith, nullable-stands (n .before .byte .ensures .0) h st))
     (c .before .before .before .before .before .before .before .before .before .before .put-one2 .ensures) (c .before .before .before .before .before .before .put-two .ensures) (c .before .before .put-name .ensures hs h a st)
 
 pub put-head-spec : {M : Type 1} → statement M

@@ -14,4 +14,8 @@ read-head-spec =
     (λ c. search needs)
     (λ c. search ways depth 8)
     (λ c κs. search needs)
+    (λ c. search needs)
+    (λ c. search needs)
+    (λ c. search ways depth 8)
+    (λ c κs. search needs)
     (λ c. search ways depth 8))

@@ -1,4 +1,4 @@
--- `skip_head`: the map says which of name and metadata follow.
+-- `skip_head`: the map says whether a dictionary number follows.
 use borrow.Author.Needs.{needs}
 use Rattle.walk.proofs.Parts.{head-skips}
 use Rattle.walk.proofs.skip_head.Statement.{statement}
@@ -11,5 +11,4 @@ skip-head-spec =
     (λ c κs. search needs)
     (λ c κs. search needs)
     (λ c κs. search needs)
-    (λ c κs. search needs)
-    (λ c. let t = c .before in let a = t .before in head-skips (a .before .byte .ensures .0) (a .ahead .ensures) (t .skip-text-if .ensures) (c .skip-metadata-if .ensures)))
+    (λ c. let f = c .before in head-skips (f .before .byte .ensures .0) (f .skip-front .ensures) (c .skip-dict-id-if .ensures)))

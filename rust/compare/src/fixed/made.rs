@@ -1,12 +1,17 @@
 //! Short words for the schemas of the fixed list.
 
 use arrow_schema::{DataType, Field, Fields, Schema, UnionFields, UnionMode};
-use oracle::write;
+use oracle::{dict_id, write};
 use std::sync::Arc;
 
 /// `name:type`, not nullable.
 pub(super) fn col(name: &str, data_type: DataType) -> Field {
     Field::new(name, data_type, false)
+}
+
+/// The field with this dictionary number.
+pub(super) fn numbered(field: Field, dict_id: i64) -> Field {
+    dict_id::with(&field, dict_id)
 }
 
 /// The sheet of this schema.
@@ -55,3 +60,18 @@ pub(super) fn union(children: Vec<(i8, Field)>) -> DataType {
     let children = UnionFields::try_new(ids, fields).expect("ids that differ");
     DataType::Union(children, UnionMode::Dense)
 }
+
+/// A sheet with a field at a place.
+pub(super) type Place = fn(Field) -> Vec<u8>;
+
+/// A column itself.
+pub(super) const COLUMN: Place = |field| sheet(vec![field]);
+
+/// Inside a column, where the merge reaches.
+pub(super) const REACHED: [Place; 5] = [
+    |field| v(structure(vec![field])),
+    |field| v(list(field)),
+    |field| v(DataType::LargeList(Arc::new(field))),
+    |field| v(list(col("s", structure(vec![field])))),
+    |field| v(structure(vec![col("l", list(field))])),
+];

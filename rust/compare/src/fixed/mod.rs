@@ -1,7 +1,8 @@
 //! The fixed list that a run begins with: document 01's 'Run:' line and trials, the readings'
-//! examples, parked logs, and RFC 3629's published examples, each with buffers exactly enough,
-//! one short and larger.
+//! examples, parked logs, dictionary numbers, and RFC 3629's published examples, each with
+//! buffers exactly enough, one short and larger.
 
+mod dict_id;
 mod made;
 mod parked;
 mod readings;
@@ -57,13 +58,17 @@ const SHEETS: [&str; 39] = [
 ];
 
 /// A last field, at level 31, 32 and 33: at 33 every one is 5, whatever its map is.
-const LAST_FIELDS: [&str; 12] = [
+const LAST_FIELDS: [&str; 16] = [
     "",
     "00",
     "0002",
     "0029",
     "0f",
     "10",
+    "10010000000000000002",
+    "10000000000000000002",
+    "100100000000000000220202",
+    "20",
     "00200000",
     "0021000000",
     "00220202",
@@ -74,9 +79,12 @@ const LAST_FIELDS: [&str; 12] = [
 
 /// Columns whose items are moved across byte 65,535 one by one. Before it some of them are
 /// refused with another number.
-const ACROSS_THE_LIMIT: [&str; 9] = [
+const ACROSS_THE_LIMIT: [&str; 12] = [
     "0002",
-    "10",
+    "20",
+    "10010000000000000002",
+    "10000000000000000002",
+    "1c010076010000000000ffffffffffffffff02",
     "0202",
     "0029",
     "040100ff02",
@@ -122,17 +130,40 @@ const TRAINS: [&str; 9] = [
     "02010004010076200200040100610204010061030201000401007620020004010061020401006103",
 ];
 
+/// Makes the requests of a part of the list for an operation.
+type Part = fn(&mut Bench, Operation) -> Result<(), Box<Difference>>;
+
+/// The parts of the list. Of each some answers are stored.
+pub(crate) const PARTS: [Part; 2] = [papers, dict_ids];
+
 /// The whole list for this operation.
 pub(crate) fn run(bench: &mut Bench, operation: Operation) -> Result<(), Box<Difference>> {
+    PARTS.iter().try_for_each(|part| part(bench, operation))
+}
+
+/// The papers' and the readings' examples, parked logs, and texts.
+fn papers(bench: &mut Bench, operation: Operation) -> Result<(), Box<Difference>> {
     let examples = [
         parked::requests(operation),
         readings::requests(operation),
         texts::requests(operation),
     ];
-    for (first, second, number) in examples.into_iter().flatten() {
-        each(bench, operation, first, second, number)?;
-    }
+    all(bench, operation, examples.concat())?;
     trials(bench, operation)
+}
+
+/// Dictionary numbers.
+fn dict_ids(bench: &mut Bench, operation: Operation) -> Result<(), Box<Difference>> {
+    all(bench, operation, dict_id::requests(operation))
+}
+
+fn all(
+    bench: &mut Bench,
+    operation: Operation,
+    requests: Vec<Inputs>,
+) -> Result<(), Box<Difference>> {
+    let mut requests = requests.into_iter();
+    requests.try_for_each(|(first, second, number)| each(bench, operation, first, second, number))
 }
 
 /// The requests with every sheet of the list, and the sheets that verdicts are asked of.
@@ -230,7 +261,7 @@ fn sheets() -> Vec<Vec<u8>> {
     for column in ACROSS_THE_LIMIT.map(hex) {
         sheets.extend((0..=column.len()).map(|within| across_the_limit(&column, within)));
     }
-    let deep = &at_level(33, &hex("10"))[3..];
+    let deep = &at_level(33, &hex("20"))[3..];
     sheets.extend([deep.len() - 1, deep.len()].map(|within| across_the_limit(deep, within)));
     sheets.extend([65_527, 65_528, 65_529, 65_530, 65_535].map(named));
     sheets.extend([128, 129].map(|children| union_of(children, 0)));
@@ -332,5 +363,13 @@ mod tests {
         assert_eq!(read(2), Ok(()));
         assert_eq!(read(1), refusal(65_535));
         assert_eq!(read(0), refusal(65_535));
+        // a dictionary number is one item of eight bytes, behind a map
+        let column = hex("10010000000000000002");
+        let read = |within| read::sheet(&across_the_limit(&column, within)).map(|_| ());
+        assert_eq!(read(10), Ok(()));
+        assert_eq!(read(9), refusal(65_535));
+        for within in 1..9 {
+            assert_eq!(read(within), refusal(65_535 - within + 1));
+        }
     }
 }

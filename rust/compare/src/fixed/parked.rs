@@ -2,7 +2,9 @@
 //! They are asked in both modes.
 
 use super::Inputs;
-use super::made::{col, dictionary, list, runs, sheet, structure, union, v};
+use super::made::{
+    COLUMN, Place, REACHED, col, dictionary, list, runs, sheet, structure, union, v,
+};
 use super::readings::alone;
 use crate::request::{Operation, Takes};
 use arrow_schema::{DataType, Field};
@@ -15,18 +17,6 @@ pub(super) fn requests(operation: Operation) -> Vec<Inputs> {
         _ => Vec::new(),
     }
 }
-
-/// A sheet with a field at a place.
-type Place = fn(Field) -> Vec<u8>;
-
-/// Inside a column, where the merge reaches.
-const REACHED: [Place; 5] = [
-    |field| v(structure(vec![field])),
-    |field| v(list(field)),
-    |field| v(DataType::LargeList(Arc::new(field))),
-    |field| v(list(col("s", structure(vec![field])))),
-    |field| v(structure(vec![col("l", list(field))])),
-];
 
 /// Inside a column, where it does not.
 const BEYOND: [Place; 9] = [
@@ -99,8 +89,7 @@ fn columns() -> Vec<Vec<u8>> {
         &[one, other],
         &[one, same],
     ];
-    let place: Place = |field| sheet(vec![field]);
-    trains.map(|fields| along(place, fields)).to_vec()
+    trains.map(|fields| along(COLUMN, fields)).to_vec()
 }
 
 /// A Null that folds with an ordered dictionary inside one sheet, and inside one struct, which

@@ -117,6 +117,8 @@ mod tests {
     use crate::bench::Bench;
     use crate::fixed;
     use crate::side::Oracle;
+    use crate::tally::Tally;
+    use oracle::read;
 
     #[test]
     fn every_number_of_every_operation_comes_up() {
@@ -149,6 +151,33 @@ mod tests {
             }
             assert!(verdicts.iter().all(|&count| count > 300), "{verdicts:?}");
         }
+    }
+
+    #[test]
+    fn dictionary_numbers_come_up_at_every_operation_on_sheets() {
+        for operation in Operation::ALL {
+            let mut random = Random::new(13);
+            let mut tally = Tally::new();
+            for turn in 0..1000 {
+                tally.look_at(&request(&mut random, operation, turn).0);
+            }
+            assert_eq!(tally.scarce(&[operation]), [], "{operation:?}");
+        }
+    }
+
+    #[test]
+    fn sheets_that_differ_in_dictionary_numbers_alone_meet() {
+        let mut random = Random::new(14);
+        let mut met = 0;
+        for _ in 0..2000 {
+            let (first, second) = source::pair(&mut random);
+            if let Ok((one, other)) = read::two(&first, &second) {
+                let [plain, same] = [one, other].map(|sheet| vary::without_dict_ids(&sheet.schema));
+                let alike = source::written(&plain) == source::written(&same);
+                met += usize::from(alike && first != second);
+            }
+        }
+        assert!(met > 80, "{met} of 2000");
     }
 
     /// How many bytes the answers that come near a sheet's limit have, and how many are too

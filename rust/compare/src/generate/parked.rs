@@ -1,8 +1,10 @@
 //! Trains of parked logs: Null at a column or inside one, before, behind or between other
-//! types there, also where fields of one name fold inside one sheet or one struct.
+//! types there, also where fields of one name fold inside one sheet or one struct; with
+//! dictionary numbers, which stay with the first, and without.
 
 use super::source;
 use arrow_schema::{DataType, Field, Fields, Schema};
+use oracle::dict_id;
 use oracle::random::{self, Random};
 use std::sync::Arc;
 
@@ -102,8 +104,8 @@ fn field(random: &mut Random, log: Log) -> Field {
         }
         Log::Other => random::data_type(random, 3),
     };
-    let field = Field::new("p", data_type, random.once_in(4));
-    let field = field.with_dict_is_ordered(log == Log::Ordered);
+    let (nullable, dict_id) = (random.once_in(4), random::dict_id(random));
+    let field = dict_id::field("p", data_type, nullable, dict_id, log == Log::Ordered);
     match random.once_in(10) {
         true => field.with_metadata([("k", random.pick(&["1", "1", "2"]))]),
         false => field,

@@ -5,7 +5,7 @@ use super::{damage, vary};
 use arrow_schema::{DataType, Field, Schema, TimeUnit};
 use oracle::limits::{LEVELS, SHEET_BYTES};
 use oracle::random::{self, Random};
-use oracle::write;
+use oracle::{dict_id, write};
 
 /// Bytes that a sheet is likely to hold: maps, small counts, all codes, edges.
 const TELLING: [u8; 20] = [
@@ -14,6 +14,9 @@ const TELLING: [u8; 20] = [
 
 /// One sheet in so many is around 65,535 bytes long.
 const LARGE: usize = 500;
+
+/// One sheet in so many has a dictionary number that is stored as 0.
+const WITH_0: usize = 40;
 
 /// A sheet, damaged or not.
 pub(super) fn sheet(random: &mut Random) -> Vec<u8> {
@@ -26,7 +29,7 @@ pub(super) fn sheet_and_schema(random: &mut Random) -> (Vec<u8>, Schema) {
     if random.once_in(12) {
         return (telling(random), schema);
     }
-    let bytes = written(&schema);
+    let bytes = perhaps_with_0(random, &schema);
     (damage::perhaps(random, bytes), schema)
 }
 
@@ -37,7 +40,7 @@ pub(super) fn pair(random: &mut Random) -> (Vec<u8>, Vec<u8>) {
         true => schema(random),
         false => vary::related(random, &one),
     };
-    let [mut one, mut other] = [one, other].map(|schema| written(&schema));
+    let [mut one, mut other] = [one, other].map(|schema| perhaps_with_0(random, &schema));
     match random.below(16) {
         0..4 => {
             one = damage::perhaps(random, one);
@@ -71,16 +74,36 @@ pub(super) fn written(schema: &Schema) -> Vec<u8> {
     write::layout(schema).expect("every count and length fits")
 }
 
-/// Bytes that begin like a sheet and go on at random: a column, one below many lists,
-/// metadata with keys in any order, a union with any ids, or nothing of a sheet.
+/// The schema's bytes; now and then one field has a dictionary number, and that is stored as 0.
+pub(super) fn perhaps_with_0(random: &mut Random, schema: &Schema) -> Vec<u8> {
+    /// Eight bytes that nothing else in a sheet is.
+    const MARK: [u8; 8] = [0xfe; 8];
+    if !random.once_in(WITH_0) {
+        return written(schema);
+    }
+    let mark = |_: &mut Random, field: Field| dict_id::with(&field, i64::from_le_bytes(MARK));
+    let mut bytes = written(&vary::one(schema, random, mark));
+    if let Some(at) = bytes.windows(8).position(|part| part == MARK) {
+        bytes[at..at + 8].fill(0);
+    }
+    bytes
+}
+
+/// Bytes that begin like a sheet and go on at random: a column, one with a dictionary number,
+/// one below many lists, metadata with keys in any order, a union with any ids, or nothing of a
+/// sheet.
 fn telling(random: &mut Random) -> Vec<u8> {
     let count = random.below(5) as u8;
     let lists = LEVELS - 3 + random.below(4);
-    let mut bytes = match random.below(6) {
+    let mut bytes = match random.below(7) {
         0 => Vec::new(),
         1 => vec![1, count, 0],
         2 => vec![2, 1, 0, 0, 33, random.pick(&[0, 1, 1, 2]), count, 0],
         3 => [vec![2, 1, 0], [0, 27].repeat(lists)].concat(),
+        4 => {
+            let dict_id = random.pick(&[0, 1, -1, 1 << 56, i64::MIN]).to_le_bytes();
+            [&[2, 1, 0, random.pick(&[16, 17, 18, 48])], &dict_id[..]].concat()
+        }
         _ => vec![2, 1, 0],
     };
     for _ in 0..count {
@@ -107,13 +130,13 @@ pub(super) fn large(random: &mut Random) -> Schema {
     if random.once_in(10) {
         return many_columns(base, most);
     }
-    let (first, place) = (random.once_in(2), random.below(5));
+    let (first, place) = (random.once_in(2), random.below(6));
     let filled = |bytes: usize| filled(&base, first, place, "n".repeat(bytes));
     let empty = write::length(&filled(1)) as usize;
     filled((most + 1).saturating_sub(empty).min(SHEET_BYTES))
 }
 
-/// The schema with a long text in one of five places.
+/// The schema with a long text in one of six places.
 fn filled(base: &Schema, first: bool, place: usize, text: String) -> Schema {
     let plain = || Field::new("", DataType::Int8, false);
     let column = match place {
@@ -131,6 +154,8 @@ fn filled(base: &Schema, first: bool, place: usize, text: String) -> Schema {
             let child = plain().with_name(text);
             plain().with_data_type(DataType::Struct(vec![child].into()))
         }
+        // before a dictionary number
+        4 => dict_id::with(&plain().with_name(text), -1),
         _ => plain().with_name(text),
     };
     let mut columns = base.fields.to_vec();
@@ -151,6 +176,7 @@ fn many_columns(base: Schema, most: usize) -> Schema {
 #[cfg(test)]
 mod tests {
     use super::*;
+    use oracle::read;
 
     #[test]
     fn large_schemas_are_around_the_limit() {
@@ -162,5 +188,21 @@ mod tests {
             past += usize::from(length > SHEET_BYTES);
         }
         assert!((10..50).contains(&past), "{past} of 60 are past the limit");
+    }
+
+    #[test]
+    fn a_dictionary_number_is_stored_as_0_now_and_then() {
+        let mut random = Random::new(8);
+        let mut stored = 0;
+        for _ in 0..4000 {
+            let schema = random::schema(&mut random);
+            let bytes = perhaps_with_0(&mut random, &schema);
+            if let Err(refusal) = read::sheet(&bytes) {
+                assert_eq!(refusal.number, 2);
+                assert_eq!(bytes[refusal.place..][..8], [0; 8]);
+                stored += 1;
+            }
+        }
+        assert!((50..100).contains(&stored), "{stored} of 4000");
     }
 }

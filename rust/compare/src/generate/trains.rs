@@ -3,6 +3,7 @@
 
 use super::{damage, source, vary};
 use arrow_schema::{DataType, Field, Schema, UnionFields, UnionMode};
+use oracle::dict_id;
 use oracle::limits::{SHEET_BYTES, TRAIN_SHEETS};
 use oracle::operations::{self, Mode};
 use oracle::random::{self, Random};
@@ -18,14 +19,14 @@ pub(super) fn train(random: &mut Random) -> Vec<u8> {
         _ => {}
     }
     let mut schema = source::schema(random);
-    let mut bytes = source::written(&schema);
+    let mut bytes = source::perhaps_with_0(random, &schema);
     for _ in 0..random.below(4) {
         schema = match random.below(6) {
             0 => random::schema(random),
             1 | 2 => vary::related(random, &schema),
             _ => vary::mergeable(random, &schema),
         };
-        bytes.extend(source::written(&schema));
+        bytes.extend(source::perhaps_with_0(random, &schema));
     }
     match random.once_in(2) {
         true => damage::perhaps(random, bytes),
@@ -61,20 +62,21 @@ fn long(random: &mut Random) -> Vec<u8> {
 /// Two sheets whose merge has 65,535 bytes, a few less or a few more.
 fn filling(random: &mut Random) -> Vec<u8> {
     let most = SHEET_BYTES - 4 + random.below(9);
-    let one = random::schema(random);
-    let other = vary::mergeable(random, &one);
-    let first = source::written(&with_column(
-        &one,
-        "n".repeat(20_000 + random.below(20_000)),
-    ));
-    let train = |bytes| {
-        let second = source::written(&with_column(&other, "m".repeat(bytes)));
-        [&first[..], &second].concat()
-    };
-    // the mode that accepts more, and gives the same where both accept
-    let shortest = operations::merge(&train(1), Mode::ParkedFirst);
-    let shortest = shortest.map_or(most, |merged| merged.len());
-    train(1 + most.saturating_sub(shortest))
+    let long = "n".repeat(20_000 + random.below(20_000));
+    // two that clash fill nothing
+    loop {
+        let one = random::schema(random);
+        let other = vary::mergeable(random, &one);
+        let first = source::written(&with_column(&one, long.clone()));
+        let train = |bytes| {
+            let second = source::written(&with_column(&other, "m".repeat(bytes)));
+            [&first[..], &second].concat()
+        };
+        // the mode that accepts more, and gives the same where both accept
+        if let Ok(shortest) = operations::merge(&train(1), Mode::ParkedFirst) {
+            return train(1 + most.saturating_sub(shortest.len()));
+        }
+    }
 }
 
 /// The schema with one more column, of this name.
@@ -98,9 +100,10 @@ fn union(random: &mut Random) -> Schema {
     for id in 0..4 {
         if random.once_in(2) {
             let data_type = random.pick(&[DataType::Int8, DataType::Int8, DataType::Null]);
-            let name = random.pick(&["x", "y"]);
+            let (name, nullable) = (random.pick(&["x", "y"]), random.once_in(8));
+            let dict_id = random::dict_id(random);
             ids.push(id);
-            children.push(Field::new(name, data_type, random.once_in(8)));
+            children.push(dict_id::field(name, data_type, nullable, dict_id, false));
         }
     }
     let children = UnionFields::try_new(ids, children).expect("ids that differ");

@@ -1,13 +1,14 @@
 //! Schemas that have to do with a given one: equal, changed in one field, in all flags, in
-//! all names, in their columns.
+//! all dictionary numbers, in all names, in their columns.
 
 use arrow_schema::{DataType, Field, FieldRef, Fields, Metadata, Schema, UnionFields, UnionMode};
+use oracle::dict_id;
 use oracle::random::{self, Random};
 use std::sync::Arc;
 
 /// A schema related to this one.
 pub(super) fn related(random: &mut Random, schema: &Schema) -> Schema {
-    match random.below(12) {
+    match random.below(13) {
         0 => schema.clone(),
         1..=3 => one(schema, random, head),
         4..=6 => one(schema, random, with_another_type),
@@ -19,24 +20,30 @@ pub(super) fn related(random: &mut Random, schema: &Schema) -> Schema {
             field.with_dict_is_ordered(random.once_in(2))
         }),
         10 => every(schema, random, perhaps_null),
+        11 => every(schema, random, perhaps_numbered),
         _ => columns(random, schema),
     }
 }
 
 /// A schema that this one is likely to merge with: some types are Null, some columns gone or
-/// new, some fields nullable.
+/// new, some fields nullable, some dictionary numbers others.
 pub(super) fn mergeable(random: &mut Random, schema: &Schema) -> Schema {
     let nulled = every(schema, random, perhaps_null);
-    match random.below(4) {
+    match random.below(5) {
         0 => columns(random, &nulled),
         1 => every(&nulled, random, wider),
         2 => one(&nulled, random, with_another_type),
+        3 => every(&nulled, random, perhaps_numbered),
         _ => nulled,
     }
 }
 
 /// Changes one field, anywhere.
-fn one(schema: &Schema, random: &mut Random, change: fn(&mut Random, Field) -> Field) -> Schema {
+pub(super) fn one(
+    schema: &Schema,
+    random: &mut Random,
+    change: fn(&mut Random, Field) -> Field,
+) -> Schema {
     let mut count = 0;
     map_schema(schema, &mut |field| {
         count += 1;
@@ -75,12 +82,8 @@ fn map_fields(fields: &Fields, change: &mut dyn FnMut(Field) -> Field) -> Fields
 }
 
 fn map_field(field: &Field, change: &mut dyn FnMut(Field) -> Field) -> FieldRef {
-    let ordered = field.dict_is_ordered() == Some(true);
     let data_type = map_type(field.data_type(), change);
-    let mapped = Field::new(field.name(), data_type, field.is_nullable())
-        .with_dict_is_ordered(ordered)
-        .with_metadata(field.metadata().clone());
-    Arc::new(change(mapped))
+    Arc::new(change(field.clone().with_data_type(data_type)))
 }
 
 fn map_type(data_type: &DataType, change: &mut dyn FnMut(Field) -> Field) -> DataType {
@@ -111,9 +114,9 @@ fn map_type(data_type: &DataType, change: &mut dyn FnMut(Field) -> Field) -> Dat
     }
 }
 
-/// Another name, nullability, order flag or metadata.
+/// Another name, nullability, order flag, dictionary number or metadata.
 fn head(random: &mut Random, field: Field) -> Field {
-    match random.below(5) {
+    match random.below(6) {
         0 => field.with_name(random::name(random)),
         1 => {
             let nullable = !field.is_nullable();
@@ -124,7 +127,27 @@ fn head(random: &mut Random, field: Field) -> Field {
             field.with_dict_is_ordered(ordered)
         }
         3 => field.with_metadata(Metadata::new()),
+        4 => numbered(random, field),
         _ => field.with_metadata(random::metadata(random)),
+    }
+}
+
+/// Another dictionary number, or none.
+fn numbered(random: &mut Random, field: Field) -> Field {
+    dict_id::with(&field, random::dict_id(random))
+}
+
+/// The schema with no dictionary number at any depth.
+#[cfg(test)]
+pub(super) fn without_dict_ids(schema: &Schema) -> Schema {
+    map_schema(schema, &mut |field| dict_id::with(&field, 0))
+}
+
+/// Another dictionary number, perhaps.
+fn perhaps_numbered(random: &mut Random, field: Field) -> Field {
+    match random.once_in(2) {
+        true => numbered(random, field),
+        false => field,
     }
 }
 
@@ -142,21 +165,15 @@ fn wider(random: &mut Random, field: Field) -> Field {
 
 fn perhaps_null(random: &mut Random, field: Field) -> Field {
     match random.once_in(4) {
-        true => retyped(&field, DataType::Null),
+        true => field.with_data_type(DataType::Null),
         false => field,
     }
 }
 
-/// The field with another type; the order flag goes where the type is no dictionary.
-fn retyped(field: &Field, data_type: DataType) -> Field {
-    Field::new(field.name(), data_type, field.is_nullable())
-        .with_dict_is_ordered(field.dict_is_ordered() == Some(true))
-        .with_metadata(field.metadata().clone())
-}
-
+/// Another type. The order flag is not written where that is no dictionary.
 fn with_another_type(random: &mut Random, field: Field) -> Field {
     let data_type = another_type(random, field.data_type());
-    retyped(&field, data_type)
+    field.with_data_type(data_type)
 }
 
 /// A type near this one, or any other.

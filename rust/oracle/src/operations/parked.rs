@@ -4,7 +4,9 @@
 //! By hand are the rule of the order flags, in [`with_null`], and the way down to it: the
 //! Rust's own way would compare the flags as ever. A comment quotes the Rust's lines that a
 //! line by hand stands for. All else the Rust does: the metadata of schemas and of fields,
-//! unions, every type that is not merged child by child, nullability, and all clashes.
+//! unions, every type that is not merged child by child, nullability, and all clashes. So does
+//! the dictionary number stay with the first field: what the Rust merged is given another type
+//! or flag at most, and never built anew.
 
 use std::sync::Arc;
 
@@ -88,7 +90,8 @@ fn merged_child(own: &Field, from: &Field) -> Result<FieldRef, ArrowError> {
 
 /// Where either type is Null: "the order flags are not compared", and "a Null column that
 /// takes a type takes its order flag too"; a type keeps its own. The Rust merges the two
-/// without their flags: `if from.dict_is_ordered != self.dict_is_ordered` finds nothing.
+/// without their flags: `if from.dict_is_ordered != self.dict_is_ordered` finds nothing. The
+/// dictionary number does not go with the type: the Rust leaves it to the first.
 fn with_null(own: &Field, from: &Field) -> Result<Field, ArrowError> {
     let typed = match own.data_type() {
         DataType::Null => from,

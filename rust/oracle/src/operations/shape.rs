@@ -14,7 +14,7 @@ use crate::refusal::Refusal;
 /// Which fields are listed, and in which order, the crate alone decides: it hands out
 /// references, and each field of a sheet read anew has an address of its own.
 pub fn flattened_fields(sheet: &[u8]) -> Outcome {
-    let read::Sheet { schema, places } = read::sheet(sheet)?;
+    let read::Sheet { schema, places, .. } = read::sheet(sheet)?;
     let in_layout_order = all_fields(schema.fields());
     assert_eq!(in_layout_order.len(), places.len());
     let places: HashMap<*const Field, usize> = in_layout_order

@@ -5,7 +5,7 @@ use std::sync::Arc;
 
 use arrow_schema::{DataType, Field, Fields, Schema, UnionFields, UnionMode};
 use oracle::operations::{self, Mode, Outcome};
-use oracle::{Refusal, write};
+use oracle::{Refusal, read, write};
 
 /// The bytes of this hex; spaces are passed over.
 pub(crate) fn hex(text: &str) -> Vec<u8> {
@@ -94,4 +94,43 @@ pub(crate) fn at_level(level: usize, last: &str) -> (Vec<u8>, usize) {
     let place = sheet.len();
     sheet.extend(hex(last));
     (sheet, place)
+}
+
+/// The sheet, which reads, with the dictionary number of every field taken out.
+pub(crate) fn without_dict_ids(sheet: &[u8]) -> Vec<u8> {
+    with_dict_ids(sheet, || 0)
+}
+
+/// The sheet, which reads, with new dictionary numbers at every depth, 0 for none.
+pub(crate) fn with_dict_ids(sheet: &[u8], mut next: impl FnMut() -> i64) -> Vec<u8> {
+    let mut bytes = sheet.to_vec();
+    // the last first: what lies before stays where it is
+    for place in read::sheet(sheet).unwrap().places.into_iter().rev() {
+        let at = behind_metadata(sheet, place);
+        if sheet[place] & 16 != 0 {
+            drop(bytes.drain(at..at + 8));
+            bytes[place] &= !16;
+        }
+        let dict_id = next();
+        if dict_id != 0 {
+            bytes.splice(at..at, dict_id.to_le_bytes());
+            bytes[place] |= 16;
+        }
+    }
+    bytes
+}
+
+/// Where the field whose map stands at this place has its dictionary number, or its type.
+fn behind_metadata(sheet: &[u8], place: usize) -> usize {
+    let number = |at: usize| usize::from(sheet[at]) + 256 * usize::from(sheet[at + 1]);
+    let string = |at: usize| at + 2 + number(at);
+    let mut at = place + 1;
+    if sheet[place] & 4 != 0 {
+        at = string(at);
+    }
+    if sheet[place] & 8 != 0 {
+        let pairs = number(at);
+        at = (0..2 * pairs).fold(at + 2, |at, _| string(at));
+    }
+    at
 }

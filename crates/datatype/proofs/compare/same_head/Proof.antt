@@ -17,4 +17,4 @@ same-head-spec =
     (λ c κs. search needs)
     (λ c κs. search needs)
     (λ c κs. search needs)
-    (λ c. let u = c .before in let v = u .before in let d = v .before in let a = d .before in let h = a .before in let l = h .before in let o = l .before in heads-by-rest (o .before .byte .ensures .0) (o .byte2 .ensures .0) (l .if1 .left) (h .if2 .left) (a .ahead .ensures) (d .ahead2 .ensures) (v .skip-head .ensures) (u .skip-head2 .ensures) (c .same-stretch .ensures)))
+    (λ c. let u = c .before in let v = u .before in let d = v .before in let a = d .before in let h = a .before in let l = h .before in let o = l .before in heads-by-rest (o .before .byte .ensures .0) (o .byte2 .ensures .0) (l .if1 .left) (h .if2 .left) (a .ahead .ensures) (d .ahead2 .ensures) (v .skip-front .ensures) (u .skip-front2 .ensures) (c .same-stretch .ensures)))
