@@ -142,7 +142,7 @@ hasType isNull f = not (isNull (f .dataType))
 abbrev pub orderFlag : {T : Type 0} → FieldOver T → Bool
 orderFlag f = f .head .dictIsOrdered
 
-flag-settles : {T : Type 0} (isNull : T → Bool) (parked : Bool) (merge : T → T → Merged T) → ((a b : T) → Gives (λ t. isNull t ≡ (isNull a && isNull b)) (merge a b))
+pub flag-settles : {T : Type 0} (isNull : T → Bool) (parked : Bool) (merge : T → T → Merged T) → ((a b : T) → Gives (λ t. isNull t ≡ (isNull a && isNull b)) (merge a b))
     → (g f : FieldOver T) → Gives (Settles (hasType isNull) orderFlag g f) (mergeField parked merge isNull g f)
 unfolding mergeField
 flag-settles isNull parked merge merge-null g f =
@@ -164,7 +164,7 @@ flag-settles isNull parked merge merge-null g f =
     either-typed false b = refl
 
 -- what is merged is Null where both are
-type-null : (parked : Bool) (l : ℕ) (a b : DataType l) → Gives (λ t. isNull l t ≡ (isNull l a && isNull l b)) (mergeType parked l a b)
+pub type-null : (parked : Bool) (l : ℕ) (a b : DataType l) → Gives (λ t. isNull l t ≡ (isNull l a && isNull l b)) (mergeType parked l a b)
 unfolding mergeType mergeSameCode isNull
 type-null parked zero a b = absurd a
 type-null parked (suc l) a b =
@@ -196,7 +196,7 @@ abbrev pub dictNumber : {T : Type 0} → FieldOver T → ℕ
 dictNumber f = f .head .dictId
 
 -- "merging keeps the first column's, even for a Null that takes a type"
-dict-id-settles : {T : Type 0} (isNull : T → Bool) (parked : Bool) (merge : T → T → Merged T) (g f : FieldOver T) → Gives (Settles always dictNumber g f) (mergeField parked merge isNull g f)
+pub dict-id-settles : {T : Type 0} (isNull : T → Bool) (parked : Bool) (merge : T → T → Merged T) (g f : FieldOver T) → Gives (Settles always dictNumber g f) (mergeField parked merge isNull g f)
 unfolding mergeField
 dict-id-settles isNull parked merge g f =
     bind-gives _ (any-gives _) λ u o.

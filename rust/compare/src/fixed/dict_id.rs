@@ -3,7 +3,8 @@
 
 use super::Inputs;
 use super::made::{
-    COLUMN, Place, REACHED, col, dictionary, list, numbered, runs, sheet, structure, union, v,
+    COLUMN, Place, REACHED, beside_empty, col, dictionary, list, numbered, runs, sheet, structure,
+    union, v,
 };
 use super::readings::alone;
 use crate::request::{Operation, Takes};
@@ -326,10 +327,8 @@ fn folding() -> Vec<Vec<u8>> {
         ] {
             let pair = vec![c(one, first), c(other, second)];
             let children = v(structure(pair.clone()));
-            let empty = v(structure(vec![]));
             trains.push(sheet(pair));
-            trains.push([&children[..], &empty].concat());
-            trains.push([&empty[..], &children].concat());
+            trains.extend(beside_empty(&children));
             trains.push(children);
         }
     }

@@ -39,6 +39,13 @@ pub(super) fn structure(children: Vec<Field>) -> DataType {
     DataType::Struct(Fields::from(children))
 }
 
+/// The sheet of one Struct, `v`, before and behind that of an empty one: beside a Struct its
+/// children fold.
+pub(super) fn beside_empty(sheet: &[u8]) -> [Vec<u8>; 2] {
+    let empty = v(structure(vec![]));
+    [[sheet, &empty].concat(), [&empty[..], sheet].concat()]
+}
+
 /// A List of this child.
 pub(super) fn list(child: Field) -> DataType {
     DataType::List(Arc::new(child))

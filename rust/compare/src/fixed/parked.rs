@@ -3,7 +3,7 @@
 
 use super::Inputs;
 use super::made::{
-    COLUMN, Place, REACHED, col, dictionary, list, runs, sheet, structure, union, v,
+    COLUMN, Place, REACHED, beside_empty, col, dictionary, list, runs, sheet, structure, union, v,
 };
 use super::readings::alone;
 use crate::request::{Operation, Takes};
@@ -99,11 +99,9 @@ fn folding() -> Vec<Vec<u8>> {
     let mut trains = Vec::new();
     for pair in pairs {
         let children = v(structure(pair.to_vec()));
-        let [empty, null] = [structure(vec![]), DataType::Null].map(v);
         trains.push(sheet(pair.to_vec()));
-        trains.push([&children[..], &empty].concat());
-        trains.push([&empty[..], &children].concat());
-        trains.push([&null[..], &children].concat());
+        trains.extend(beside_empty(&children));
+        trains.push([&v(DataType::Null)[..], &children].concat());
         trains.push(children);
     }
     trains
