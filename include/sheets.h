@@ -70,7 +70,11 @@ uint8_t sheets_try_from_fields(uint16_t count,
 #define SHEETS_PARKED_FIRST 1
 
 /* The merge: one sheet out of a train, its sheets end to end. A clash has the sheet's number, from 0, for its
- * place. A field has the dictionary number of the first sheet that has the field, or none. */
+ * place. A field has the dictionary number of the first sheet that has the field, or none.
+ *
+ * An accepted answer may stand first in a later train of the same mode, in its sheets' place (document 02, Item 1):
+ * while neither train has more than 256 sheets, the answer is the same, or the refusal's number is, and its place
+ * counts the train given. */
 uint8_t sheets_merge(const uint8_t *train, size_t train_length,
                      uint8_t *work, size_t work_length,
                      uint8_t *answer, size_t answer_length,

@@ -183,6 +183,27 @@ static void merges(void) {
             sheets_merge(BYTES(parked_then_driven), LENT(63, 8), SHEETS_AS_THE_RUST), 0, 32, 0);
 }
 
+/* A saved answer, first in a later train, stands for the sheets that it was merged from: v:Null and v:Int32, then
+ * v:Int32 and w:Utf8. */
+static void saved_answers(void) {
+    static const uint8_t logs[] = {2, 1, 0, 4, 1, 0, 'v', 0, 2, 1, 0, 4, 1, 0, 'v', 4,
+                                   2, 2, 0, 4, 1, 0, 'v', 4, 4, 1, 0, 'w', 24};
+    static const uint8_t merged[] = {2, 2, 0, 5, 1, 0, 'v', 4, 4, 1, 0, 'w', 24};
+    enum { FIRST_TWO = 16, SAVED = 8, THIRD = sizeof logs - FIRST_TWO };
+    uint8_t train[SAVED + THIRD];
+    accepted("merge: three logs at once",
+             sheets_merge(BYTES(logs), LENT(116, ANSWER), SHEETS_AS_THE_RUST), 116, BYTES(merged));
+    accepted("merge: the first two of them, saved",
+             sheets_merge(logs, FIRST_TWO, LENT(64, SAVED), SHEETS_AS_THE_RUST), 64, BYTES(nullable));
+    memcpy(train, answer, SAVED);
+    memcpy(train + SAVED, logs + FIRST_TWO, THIRD);
+    accepted("merge: the third onto the saved answer gives the bytes of all at once",
+             sheets_merge(BYTES(train), LENT(84, ANSWER), SHEETS_AS_THE_RUST), 84, BYTES(merged));
+    train[SAVED + 7] = 2;
+    refused("merge: a clash with the saved answer, its place counting the train given",
+            sheets_merge(BYTES(train), LENT(84, ANSWER), SHEETS_AS_THE_RUST), 84, 22, 1);
+}
+
 /* Dictionary numbers, on v:Int32: 1, -1, a stored 0, and 1 under a map with an unknown bit. */
 static void dictionary_numbers(void) {
     static const uint8_t one[] = {2, 1, 0, 20, 1, 0, 'v', 1, 0, 0, 0, 0, 0, 0, 0, 4};
@@ -229,6 +250,7 @@ int main(void) {
     schemas();
     shapes();
     merges();
+    saved_answers();
     dictionary_numbers();
     printf("%d passed, %d failed\n", passed, failed);
     return failed == 0 ? 0 : 1;

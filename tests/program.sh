@@ -84,6 +84,26 @@ check "./run: standard input, then a file" "0 0 0201000501007604" ./run - exampl
 check "./run: a file that is cut" "1 7 -" ./run <(sheet '') <(printf '\x00') </dev/null
 check "./run: a file behind a clash is read" "2 25 -" ./run examples/driven.sheet examples/ordered.sheet <(printf '\x02\x01\x00\x04\x01\x00v\x29') </dev/null
 
+# both WHAT LINE FILE..: ./run on the files must print this line, in either mode
+both() {
+  local what=$1 line=$2
+  shift 2
+  check "./run: $what" "$line" ./run "$@" </dev/null
+  check "./run --parked-first: $what" "$line" ./run --parked-first "$@" </dev/null
+}
+
+# a saved table first, in the place of its logs: the same line, or the same number at a place of the train given
+table=$(in_hex <examples/table.sheet)
+both "the saved table is what its logs give" "0 0 $table" examples/parked.sheet examples/driven.sheet
+both "the saved table alone is itself" "0 0 $table" examples/table.sheet
+merged="0 0 02020005010076040401007718"
+both "all logs at once" "$merged" examples/parked.sheet examples/driven.sheet examples/newer.sheet examples/driven.sheet
+both "the new logs onto the saved table" "$merged" examples/table.sheet examples/newer.sheet examples/driven.sheet
+both "a clash, all logs at once" "20 3 -" examples/parked.sheet examples/driven.sheet examples/newer.sheet examples/ordered.sheet
+both "the clash onto the saved table" "20 2 -" examples/table.sheet examples/newer.sheet examples/ordered.sheet
+check "./run: a cut log, all logs at once" "1 23 -" ./run examples/parked.sheet examples/driven.sheet <(sheet '') </dev/null
+check "./run: the cut log onto the saved table" "1 15 -" ./run examples/table.sheet <(sheet '') </dev/null
+
 # quiet WHAT: the program ran and had no line to print, or could not print it: nothing is printed, and standard error says why
 quiet() {
   if [ ! -s "$printed" ] && [ -s "$wanted" ]; then

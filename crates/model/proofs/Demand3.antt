@@ -9,22 +9,23 @@ use lib.Seq.{take-at}
 use lib.Dec.{leb}
 use borrow.Author.Tests.{leb-true, leb-false}
 use Rattle.model.specs.Numbers.{maxLevels, maxSheetBytes, maxSheets}
-use Rattle.model.specs.Bytes.{Bytes, Every}
+use Rattle.model.specs.Bytes.{Bytes, AreBytes, Every, sameBytes}
 use Rattle.model.specs.Tree.{DataType, Field, Schema, Null, fields, layout, table}
 use Rattle.model.specs.Sheet.{each, childrenBytes, typeBytes, sheetBytes}
 use Rattle.model.specs.Read.{Step, got, bad, next, readSheet, readTrain}
 use Rattle.model.specs.Merge.{mergeSchema, empty, placed, mergeFrom, tryMerge}
-use Rattle.model.specs.Call.{Answer, bytes, sheetAnswer, mergeAnswer, call}
-use Rattle.model.specs.Growth.{names, NoNameTwice, SheetOfDemand3, endToEnd, WroteSheet, MergeOnlyGrows, Demand3}
+use Rattle.model.specs.Call.{Answer, bytes, sheetAnswer, mergeAnswer, written, call, mergeCall}
+use Rattle.model.specs.Growth.{Distinct, names, NoNameTwice, SheetOfDemand3, endToEnd, Accepts, WroteSheet, MergeOnlyGrows, Demand3}
 use Rattle.model.specs.WellFormed.{WellFormedParams, WellFormedChildren, WellFormedType, WellFormedSchema, Fits, SomeOrder}
 use Rattle.model.proofs.Lists.{every-append, every-map, every-both, each-append}
+use Rattle.model.proofs.ByteStrings.{same-bytes-differ}
 use Rattle.model.proofs.Gives.{placed-holds}
 use Rattle.model.proofs.Steps.{Holds, value, of-got, next-holds, holds-map, got-inv, next-inv}
 use Rattle.model.proofs.WellFormed.{children-types, column-types}
 use Rattle.model.proofs.MergeKeeps.{empty-well-formed, merge-keeps}
 use Rattle.model.proofs.WholeSheets.{sheet-exact, sheet-reads, train-reads, train-too-many}
-use Rattle.model.proofs.Grows.{distinct-apart, Tidy, Standing, SchemaGrew, schema-grows, schema-refl, schema-trans, schema-grown}
-use Rattle.model.proofs.Calls.{Accepted, accepted-call, call-accepted, then-inv, answer-then, bytes-inv}
+use Rattle.model.proofs.Grows.{Apart, distinct-apart, Tidy, Standing, SchemaGrew, schema-grows, schema-refl, schema-trans, schema-grown}
+use Rattle.model.proofs.Calls.{Accepted, accepted-call, accepted-written, call-accepted, then-inv, answer-then, bytes-inv}
 use Rattle.model.proofs.Refusals.{merge-numbered}
 
 -- What reads without refusal and has no struct with a name twice is tidy
@@ -102,7 +103,7 @@ train-count xs ys e f h = go (leb (length xs) maxSheets) refl
 -- Merging one schema after the other, in either mode
 
 module _ (parked : Bool) where
-  merge-append : (i : ℕ) (x : Schema) (ys zs : List Schema) → mergeFrom parked i x (ys ++ zs) ≡ next (mergeFrom parked i x ys) (λ z j. mergeFrom parked j z zs)
+  pub merge-append : (i : ℕ) (x : Schema) (ys zs : List Schema) → mergeFrom parked i x (ys ++ zs) ≡ next (mergeFrom parked i x ys) (λ z j. mergeFrom parked j z zs)
   unfolding mergeFrom next
   merge-append i x [] zs = refl
   merge-append i x (y ∷ ys) zs = go (placed i (mergeSchema parked x y)) (λ z j. merge-append j z ys zs)
@@ -142,15 +143,27 @@ module _ (parked : Bool) where
   unfolding mergeAnswer sheetAnswer
   merge-of xs b z f m = answer-then _ (train-reads xs f (m .count)) (answer-then _ (m .merges) (ap bytes (sym (m .written))))
 
-  -- an accepted merge wrote a sheet that reads as the merged schema
+  -- the merged sheet reads as the merged schema
+  reads-back : (xs : List Schema) (b : Bytes) (z : Schema) → Every Fits xs → MergedTo xs b z → length b ≤ maxSheetBytes → readSheet b ≡ got z (length b)
+  unfolding tryMerge
+  reads-back xs b z f m w =
+      let good : WellFormedSchema z = of-got (subst (Holds (λ z e. WellFormedSchema z)) (m .merges) (merge-keeps parked 0 empty xs empty-well-formed (every-map Fits WellFormedSchema (λ x f. f .wellFormed) xs f))) in
+      let fits : Fits z = record { wellFormed = good; size = subst (λ b. length b ≤ maxSheetBytes) (m .written) w } in
+      subst (λ b. readSheet b ≡ got z (length b)) (sym (m .written)) (sheet-reads z fits)
+
+  -- so does what an accepted call wrote
   wrote : (xs : List Schema) (b : Bytes) (z : Schema) {given : ℕ} {outcome : Answer} {work answer : Bytes} → Every Fits xs → MergedTo xs b z → Accepted given outcome work answer b
       → WroteSheet (call given outcome work answer) z
-  unfolding tryMerge
   wrote xs b z {given} {outcome} {work} {answer} f m a =
-      let good : WellFormedSchema z = of-got (subst (Holds (λ z e. WellFormedSchema z)) (m .merges) (merge-keeps parked 0 empty xs empty-well-formed (every-map Fits WellFormedSchema (λ x f. f .wellFormed) xs f))) in
-      let fits : Fits z = record { wellFormed = good; size = subst (λ b. length b ≤ maxSheetBytes) (m .written) (a .size) } in
       subst (λ e. WroteSheet e z) (sym (accepted-call a))
-      (ap readSheet (take-at b (drop (length b) answer) (length b) refl) ∙ subst (λ b. readSheet b ≡ got z (length b)) (sym (m .written)) (sheet-reads z fits))
+      (ap readSheet (take-at b (drop (length b) answer) (length b) refl) ∙ reads-back xs b z f m (a .size))
+
+  -- what is merged from tidy schemas stands
+  merged-stands : (xs : List Schema) (z : Schema) (i : ℕ) → Every TidySchema xs → tryMerge parked xs ≡ got z i → Standing z
+  unfolding tryMerge
+  merged-stands xs z i t r =
+      let start : Standing empty = record { apart = tt; tidy = tt } in
+      of-got (subst (Holds (λ z e. Standing z × SchemaGrew parked empty z)) r (merge-grows 0 empty xs start t)) .0
 
   -- the schema merged from a list is grown into the one merged from the list and those that follow, and its sheet is no longer
   pub merge-grows-on : (xs ys : List Schema) (new : Schema) (e : ℕ) → Every TidySchema xs → Every TidySchema ys → tryMerge parked (xs ++ ys) ≡ got new e
@@ -158,9 +171,7 @@ module _ (parked : Bool) where
   unfolding tryMerge
   merge-grows-on xs ys new e t u h =
       let (old, i, r, s) = next-inv _ _ (sym (merge-append 0 empty xs ys) ∙ h) in
-      let start : Standing empty = record { apart = tt; tidy = tt } in
-      let stands : Standing old = of-got (subst (Holds (λ z e. Standing z × SchemaGrew parked empty z)) r (merge-grows 0 empty xs start t)) .0 in
-      (old, i, r, of-got (subst (Holds (λ z e. Standing z × SchemaGrew parked old z)) s (merge-grows i old ys stands u)) .1)
+      (old, i, r, of-got (subst (Holds (λ z e. Standing z × SchemaGrew parked old z)) s (merge-grows i old ys (merged-stands xs old i t r) u)) .1)
 
   -- the first call, where the second was accepted: it needs no more work room, and its answer is no longer
   first-accepted : (list all : Bytes) (xs : List Schema) (old : Schema) (work work′ answer answer′ b : Bytes) → list ≡ each sheetBytes xs → Every Fits xs
@@ -191,3 +202,28 @@ module _ (parked : Bool) where
 
 pub demand3 : Demand3
 demand3 = only-grows
+
+-- What was merged is itself a sheet of demand 3, so a saved answer only grows, however often it is merged onto (document 02, Item 1)
+
+apart-distinct : (ns : List Bytes) → Apart ns → Distinct ns
+apart-distinct [] a = tt
+apart-distinct (n ∷ ns) a = (every-map (λ m. sameBytes n m ≡ false) (λ m. n ≡ m → ⊥) (same-bytes-differ n) ns (a .0), apart-distinct ns (a .1))
+
+tidy-names : (l : ℕ) (t : DataType l) → Tidy l t → NoNameTwice l t
+tidy-names zero t h = absurd h
+tidy-names (suc l) t h = (
+  λ e. apart-distinct (names (t .children)) (h .0 e),
+  every-map (λ f. Tidy l (f .dataType)) (λ f. NoNameTwice l (f .dataType)) (λ f k. tidy-names l (f .dataType) k) (t .children) (h .2),
+)
+
+pub saved-sheet : (parked : Bool) (list : List Bytes) → Every SheetOfDemand3 list → (work answer : Bytes) → let e = mergeCall parked (endToEnd list) work answer in
+    Accepts e → AreBytes (written e) → SheetOfDemand3 (written e)
+saved-sheet parked list w work answer h byte =
+    let (xs, p) = sheets-of list w in
+    let train = endToEnd list in
+    let (b, a) = call-accepted (length train) (mergeAnswer parked train) work answer (merge-numbered parked train) h in
+    let (z, m) = merge-inv parked xs b (p .fits) (ap (mergeAnswer parked) (sym (p .written)) ∙ a .answers) in
+    record {
+      whole = record { bytes = byte; schema = z; reads = subst (λ s. readSheet s ≡ got z (length s)) (sym (accepted-written a)) (reads-back parked xs b z (p .fits) m (a .size)) };
+      noNameTwice = every-map (λ f. Tidy maxLevels (f .dataType)) (λ f. NoNameTwice maxLevels (f .dataType)) (λ f k. tidy-names maxLevels (f .dataType) k) (z .columns) (merged-stands parked xs z (m .place) (p .tidy) (m .merges) .tidy);
+    }

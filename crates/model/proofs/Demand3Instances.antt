@@ -30,7 +30,7 @@ unfolding all
 all-every p P f [] h = tt
 all-every p P f (x ∷ xs) h = let (a, b) = and-true _ _ h in (f x a, all-every p P f xs b)
 
-are-bytes : (s : Bytes) → all (λ b. ltb b 256) s ≡ true → AreBytes s
+pub are-bytes : (s : Bytes) → all (λ b. ltb b 256) s ≡ true → AreBytes s
 unfolding all
 are-bytes [] h zero = omega arith
 are-bytes [] h (suc i) = omega arith

@@ -15,6 +15,7 @@ pub mod Flags
 -- P1 to P12
 pub mod Trials
 -- reading and writing
+pub mod Alike
 pub mod Items
 pub mod Exact
 pub mod WellFormed
@@ -25,6 +26,7 @@ pub mod WholeSheets
 pub mod Calls
 pub mod Refusals
 pub mod Places
+pub mod Behind
 -- the other operations
 pub mod Look
 pub mod Search
@@ -49,3 +51,7 @@ pub mod Standing
 pub mod MergeAnswers
 pub mod Demand3
 pub mod Demand3Instances
+-- document 02, Item 1
+pub mod Containment
+pub mod SavedAnswer
+pub mod SavedAnswerInstances

@@ -1,6 +1,6 @@
 -- Which numbers each operation can refuse with: those of document 01's table that are its own, and no other. So "0 means accepted".
 use Prim.Native.Nat.{ℕ, zero, suc, _+_}
-use mathlib.Core.Path.{_≡_, refl, sym, ap, subst, _∙_}
+use mathlib.Core.Path.{_≡_, refl, sym, ap, _∙_}
 use mathlib.Core.List.{List, [], _∷_, _++_, map}
 use mathlib.Core.Bool.{Bool, true, false, not, _||_, false≢true, or-true}
 use lib.ListN.{length}
@@ -8,6 +8,7 @@ use lib.Dec.{eqb, ltb}
 use borrow.Author.Tests.{eqb-true}
 use Rattle.model.specs.Numbers.{maxLevels, maxSheetBytes, maxSheets, accepted, endsInside, sheetTooLong, tooDeep, malformed, notUtf8, keyNotAbove, idTooLarge, idRepeated, bytesLeft, tooManySheets}
 use Rattle.model.specs.Numbers.{schemaMetadataClash, orderedClash, fieldMetadataClash, typeClash, equalChildClash, typeIdClash}
+use Rattle.model.specs.Numbers.{idNumbers, readingNumbers, fieldNumbers, clashNumbers}
 use Rattle.model.specs.Numbers.{oddList, indexOutOfBounds, indexRepeated, maskLength, separatorNotUtf8, noSuchColumn, moreFieldsThanIds, moreIdsThanFields, tooManyFields, answerTooLong, answerBufferShort, workBufferShort}
 use Rattle.model.specs.Bytes.{Bytes, Metadata, Found, found, missing, choose, all, num, bit, among}
 use Rattle.model.specs.Tree.{DataTypeOver, FieldOver, DataType, Field, Schema, Params, items, timestamp, Children, fields, keyAndValue, counted, countedWithIds, layout}
@@ -22,28 +23,12 @@ use Rattle.model.proofs.Calls.{Numbered, answered, refusing}
 
 -- The numbers of document 01's table, by what they belong to
 
--- the id of a union child
-abbrev pub idNumbers : List ℕ
-idNumbers = idTooLarge ∷ idRepeated ∷ []
-
--- a sheet, whatever comes after it
-abbrev pub readingNumbers : List ℕ
-readingNumbers = endsInside ∷ sheetTooLong ∷ tooDeep ∷ malformed ∷ notUtf8 ∷ keyNotAbove ∷ idNumbers
-
 -- a single sheet: all that containment, both equalities, `is_nested` and `flattened_fields` refuse with
 abbrev pub sheetNumbers : List ℕ
 sheetNumbers = readingNumbers ++ (bytesLeft ∷ [])
 
 abbrev pub trainNumbers : List ℕ
 trainNumbers = readingNumbers ++ (tooManySheets ∷ [])
-
--- two fields
-abbrev pub fieldNumbers : List ℕ
-fieldNumbers = orderedClash ∷ fieldMetadataClash ∷ typeClash ∷ equalChildClash ∷ typeIdClash ∷ []
-
--- two schemas
-abbrev pub clashNumbers : List ℕ
-clashNumbers = schemaMetadataClash ∷ fieldNumbers
 
 abbrev pub mergeNumbers : List ℕ
 mergeNumbers = trainNumbers ++ clashNumbers
@@ -112,23 +97,41 @@ answers-numbered numbers h (refusesBy k) = refusing λ e. false≢true (sym h �
 
 -- More numbers than before
 
+-- what all numbers of a list pass, one of them passes
+pub among-all : (p : ℕ → Bool) (numbers : List ℕ) → all p numbers ≡ true → (n : ℕ) → Among numbers n → p n ≡ true
+unfolding among all
+among-all p [] h n k = absurd (false≢true k)
+among-all p (x ∷ numbers) h n k =
+    let (first, rest) = and-true (p x) (all p numbers) h in
+    go (eqb n x) refl k first λ k. among-all p numbers rest n k
+  where
+    go : (t : Bool) → eqb n x ≡ t → (t || among n numbers) ≡ true → p x ≡ true → (Among numbers n → p n ≡ true) → p n ≡ true
+    go true e k first rest = ap p (eqb-true n x e) ∙ first
+    go false e k first rest = rest k
+
 -- a number of the smaller list is one of the larger, if all of the smaller list's are
 pub among-more : (fewer more : List ℕ) → all (λ n. among n more) fewer ≡ true → (n : ℕ) → Among fewer n → Among more n
-unfolding among all
-among-more [] more h n k = absurd (false≢true k)
-among-more (x ∷ fewer) more h n k =
-    let (p, q) = and-true (among x more) (all (λ n. among n more) fewer) h in
-    go (eqb n x) refl k p λ k. among-more fewer more q n k
-  where
-    go : (t : Bool) → eqb n x ≡ t → (t || among n fewer) ≡ true → Among more x → (Among fewer n → Among more n) → Among more n
-    go true e k p r = subst (λ y. Among more y) (sym (eqb-true n x e)) p
-    go false e k p r = r k
+among-more fewer more = among-all (λ n. among n more) fewer
 
 -- and so is one behind others, whatever the list is
 pub among-behind : (front numbers : List ℕ) (n : ℕ) → Among numbers n → Among (front ++ numbers) n
 unfolding among
 among-behind [] numbers n h = h
 among-behind (x ∷ front) numbers n h = ap (λ b. eqb n x || b) (among-behind front numbers n h) ∙ or-true (eqb n x)
+
+-- one that is not the last is before it
+pub among-front : (front : List ℕ) (last n : ℕ) → Among (front ++ (last ∷ [])) n → (n ≡ last → ⊥) → Among front n
+unfolding among
+among-front [] last n h k = go (eqb n last) refl h
+  where
+    go : (t : Bool) → eqb n last ≡ t → (t || false) ≡ true → false ≡ true
+    go true e h = absurd (k (eqb-true n last e))
+    go false e h = h
+among-front (x ∷ front) last n h k = go (eqb n x) h λ h. among-front front last n h k
+  where
+    go : (t : Bool) → (t || among n (front ++ (last ∷ []))) ≡ true → (Among (front ++ (last ∷ [])) n → Among front n) → (t || among n front) ≡ true
+    go true h rest = refl
+    go false h rest = rest h
 
 -- a refusal with some numbers is one with those and others
 module _ {P Q : ℕ → Type 0} (wider : (n : ℕ) → P n → Q n) where
@@ -436,7 +439,7 @@ merge-schema-clashes parked x y =
     bind-clashes (clashes-map (among-more fieldNumbers clashNumbers refl)
     (pour-clashes _ (merge-by-name-clashes _ (merge-field-clashes parked _ _ (merge-type-clashes parked maxLevels))) (x .columns) (y .columns))) λ cs. merges
 
-merge-from-refuses : (parked : Bool) (i : ℕ) (x : Schema) (ys : List Schema) → Refuses (Among clashNumbers) (mergeFrom parked i x ys)
+pub merge-from-refuses : (parked : Bool) (i : ℕ) (x : Schema) (ys : List Schema) → Refuses (Among clashNumbers) (mergeFrom parked i x ys)
 unfolding mergeFrom
 merge-from-refuses parked i x [] = gives
 merge-from-refuses parked i x (y ∷ ys) = next-refuses (placed-refuses i (merge-schema-clashes parked x y)) λ z j. merge-from-refuses parked j z ys

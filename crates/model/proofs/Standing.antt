@@ -1,5 +1,5 @@
 -- What stands in a merged field, in both modes: the order flag of the first field of its name whose type is not Null, and the dictionary number
--- of the first field of its name. One law, of any part of a field that merging takes from the first field that counts.
+-- of the first field of its name. One law, of any part of a field that merging takes from the first field that counts. And no name stands twice.
 use Prim.Native.Nat.{ℕ, zero, suc}
 use mathlib.Core.Path.{_≡_, refl, sym, ap, subst, _∙_}
 use mathlib.Core.List.{List, [], _∷_, _++_, append-assoc, append-nil, List·Memᴰ, List·Memᴰ·head, List·Memᴰ·tail}
@@ -213,3 +213,10 @@ pub dict-id-stands : (parked : Bool) (xs : List Schema) (z : Schema) (e : ℕ) �
     → (h : Field maxLevels) → List·Memᴰ h (z .columns) → (d : ℕ) → h .head .dictId ≡ standingDictId (h .head .name) (columnsOf xs) d
 dict-id-stands parked xs z e merges h i d =
     column-stands parked always dictNumber (dict-id-settles (isNull maxLevels) parked (mergeType parked maxLevels)) xs z e merges h i refl d
+
+-- In an accepted merge, in either mode, no two columns have one name.
+pub names-apart : (parked : Bool) (xs : List Schema) (z : Schema) (e : ℕ) → tryMerge parked xs ≡ got z e → Apart (names (z .columns))
+unfolding tryMerge
+names-apart parked xs z e merges =
+    of-done (subst (Gives _) (merge-from-pour parked 0 empty xs z e merges)
+    (schemas-stand parked always dictNumber (dict-id-settles (isNull maxLevels) parked (mergeType parked maxLevels)) empty xs tt)) .0

@@ -2,7 +2,7 @@
 use Prim.Native.Nat.{ℕ, _+_, _*_}
 use mathlib.Core.List.{[], _∷_, _++_, map}
 use mathlib.Core.Bool.{Bool, not}
-use lib.ListN.{length, drop, replicate}
+use lib.ListN.{length, take, drop, replicate}
 use lib.Dec.{eqb, ltb}
 use Rattle.model.specs.Numbers.{maxLevels, maxSheetBytes, workBytesPerSheetByte, accepted, answerTooLong, answerBufferShort, workBufferShort}
 use Rattle.model.specs.Bytes.{Bytes, choose, u16, flag}
@@ -87,6 +87,10 @@ pub record Exit : Type 0 where
   pub length : ℕ
   pub answer : Bytes
   pub work : Bytes
+
+-- what a call wrote: "acceptance writes exactly the answer at its start", and a refusal writes nothing
+abbrev pub written : Exit → Bytes
+written e = take (e .length) (e .answer)
 
 unfoldable pub zeros : ℕ → Bytes
 zeros n = replicate n 0

@@ -4,14 +4,14 @@ use mathlib.Core.Path.{_≡_}
 use mathlib.Core.List.{List, [], _∷_, _++_, map, List·Memᴰ}
 use mathlib.Core.Bool.{Bool, true, _&&_}
 use mathlib.Core.Logic.{_⊎_}
-use lib.ListN.{length, take}
+use lib.ListN.{length}
 use Rattle.model.specs.Numbers.{maxLevels, accepted}
 use Rattle.model.specs.Bytes.{Bytes, AreBytes, Metadata, Every}
 use Rattle.model.specs.Tree.{DataTypeOver, FieldOver, DataType, Schema, Null, List′, LargeList, Struct, Union}
 use Rattle.model.specs.Sheet.{each, fieldBytes, typeBytes}
 use Rattle.model.specs.Read.{got, readSheet}
 use Rattle.model.specs.Merge.{isNull}
-use Rattle.model.specs.Call.{Exit, mergeCall}
+use Rattle.model.specs.Call.{Exit, written, mergeCall}
 
 -- the second list begins with the first, related element by element
 pub data Begins {A : Type 0} (R : A → A → Type 0) : List A → List A → Type 0 where
@@ -106,7 +106,7 @@ abbrev pub Accepts : Exit → Type 0
 Accepts e = e .number ≡ accepted
 
 abbrev pub WroteSheet : Exit → Schema → Type 0
-WroteSheet e x = readSheet (take (e .length) (e .answer)) ≡ got x (e .length)
+WroteSheet e x = readSheet (written e) ≡ got x (e .length)
 
 -- "take two merges with equal buffers, the first given the list, the second the list and then those that follow. If the second is accepted,
 -- so is the first, and" its schema is grown into the second's: said of lists of whichever sheets. "Equal buffers are equal in length, answer

@@ -17,6 +17,8 @@ mod mode;
 #[cfg(feature = "linked")]
 mod owned;
 mod refusal;
+#[cfg(feature = "linked")]
+mod table;
 
 pub use mode::Mode;
 #[cfg(feature = "linked")]
@@ -25,6 +27,8 @@ pub use owned::{
     merge_train, normalize, project, project_strict, try_from_fields, try_new,
 };
 pub use refusal::{Counts, Refusal};
+#[cfg(feature = "linked")]
+pub use table::Table;
 
 /// The example of the repository's README compiles.
 #[cfg(all(doctest, feature = "linked"))]

@@ -13,7 +13,7 @@ const ANSWER_BYTES: usize = 65_535;
 const WORK_PER_BYTE: usize = 4;
 
 /// A train has at most so many sheets.
-const TRAIN_SHEETS: usize = 256;
+pub(crate) const TRAIN_SHEETS: usize = 256;
 
 /// Lends a call on sheets of so many bytes its buffers, and gives what it answers.
 fn on_sheets(

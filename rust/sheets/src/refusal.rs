@@ -24,9 +24,9 @@ pub struct Refusal {
 pub enum Counts {
     /// Nothing: the number names no place.
     Nothing,
-    /// Bytes of the sheet, of two sheets end to end, or of the train.
+    /// Bytes of the sheet, of two sheets end to end, of the train, or of the logs given to a table.
     Bytes,
-    /// Sheets of the train.
+    /// Sheets of the train, or logs given to a table.
     Sheets,
     /// Entries of the list of indices or ids.
     Entries,
