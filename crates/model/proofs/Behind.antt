@@ -1,4 +1,4 @@
--- A train behind whole sheets is read as it is read alone: the same sheets more, or the same number.
+-- A train behind whole sheets is read as it is read alone, so many bytes on: the same sheets more, or the same number.
 use Prim.Native.Nat.{ℕ, zero, suc, _+_, _-_, _≤_}
 use native.Mathlib.Omega.{arith}
 use mathlib.Core.Path.{_≡_, refl, sym, ap, subst, _∙_}
@@ -22,7 +22,7 @@ use Rattle.model.proofs.Alike.{Alike, value, refusal, next-alike, Moved
 -- Where fewer sheets than allowed do not lead to 33, more allowed sheets change nothing
 
 -- a step is not refused by 33
-abbrev NotTooMany : {A : Type 0} → Step A → Type 0
+abbrev pub NotTooMany : {A : Type 0} → Step A → Type 0
 NotTooMany r = (p : ℕ) → r ≡ bad tooManySheets p → ⊥
 
 more-allowed : (s : Bytes) (n m place : ℕ) → n ≤ m → NotTooMany (readSheets s n place) → readSheets s m place ≡ readSheets s n place

@@ -190,9 +190,9 @@ grows-trans parked zero m n a b c up x y = absurd a
 grows-trans parked (suc l) m n a b c up x y =
     over-trans (GrownField parked (isNull l) (Grows parked l)) (field-trans parked (isNull l) (Grows parked l) (grows-null parked l) (grows-trans parked l)) m n a b c up x y
 
-field-map : {T : Type 0} {parked : Bool} {isNull : T → Bool} {G H : Bool → T → T → Type 0} → ((n : Bool) (a b : T) → G n a b → H n a b) → (f g : FieldOver T)
-    → GrownField parked isNull G f g → GrownField parked isNull H f g
-field-map k f g h = record { name = h .name; dictIsOrdered = h .dictIsOrdered; metadata = h .metadata; dictId = h .dictId; nullable = h .nullable; dataType = k _ _ _ (h .dataType) }
+pub field-map : {T : Type 0} {parked : Bool} {isNull : T → Bool} {G H : Bool → T → T → Type 0} (f g : FieldOver T)
+    → (G (g .head .nullable) (f .dataType) (g .dataType) → H (g .head .nullable) (f .dataType) (g .dataType)) → GrownField parked isNull G f g → GrownField parked isNull H f g
+field-map f g k h = record { name = h .name; dictIsOrdered = h .dictIsOrdered; metadata = h .metadata; dictId = h .dictId; nullable = h .nullable; dataType = k (h .dataType) }
 
 -- what is the same as a tree is the same by whatever is compared
 over-map : {T A C : Type 0} (type : DataTypeOver (FieldOver T) → A) (child : FieldOver T → C) {E F : FieldOver T → FieldOver T → Type 0}
@@ -207,7 +207,7 @@ over-map type child g n a b (union p q r k) = union p q r (begins-map (λ x y e.
 
 pub grows-grown : (parked : Bool) (l : ℕ) (n : Bool) (a b : DataType l) → Grows parked l n a b → Grown parked l n a b
 grows-grown parked zero n a b h = absurd h
-grows-grown parked (suc l) n a b h = over-map _ _ (field-map (grows-grown parked l)) n a b h
+grows-grown parked (suc l) n a b h = over-map _ _ (λ f g. field-map f g (grows-grown parked l _ (f .dataType) (g .dataType))) n a b h
 
 -- Types of which no struct has a name twice, and of which a Null is its code alone
 
@@ -519,4 +519,4 @@ schema-trans parked x y z p q =
 
 -- what grew as trees grew by its bytes
 pub schema-grown : {parked : Bool} {x y : Schema} → SchemaGrew parked x y → GrownSchema parked x y
-schema-grown {parked} h = record { metadata = h .metadata; columns = begins-map (field-map (grows-grown parked 32)) (h .columns) }
+schema-grown {parked} h = record { metadata = h .metadata; columns = begins-map (λ f g. field-map f g (grows-grown parked 32 _ _ _)) (h .columns) }

@@ -47,6 +47,7 @@ pub mod Size
 pub mod NothingLost
 pub mod GrownAt
 pub mod Grows
+pub mod GrownTwice
 pub mod Standing
 pub mod MergeAnswers
 pub mod Demand3

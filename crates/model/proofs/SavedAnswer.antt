@@ -31,7 +31,7 @@ use Rattle.model.proofs.Calls.{accepted-written, call-accepted, answer-
 use Rattle.model.proofs.Refusals.{trainNumbers, Refuses, gives, stops, Among, among-all, among-front, train-refuses, merge-from-refuses, merge-numbered}
 use Rattle.model.proofs.Alike as alike
 use Rattle.model.proofs.Alike.{Alike, next-alike, Moved}
-use Rattle.model.proofs.Behind.{train-behind}
+use Rattle.model.proofs.Behind.{NotTooMany, train-behind}
 
 -- A place in what comes further, behind so many sheets of so many bytes
 
@@ -68,7 +68,7 @@ module _ (sheets size : ℕ) where
 
 -- what comes further is refused by a number of reading alone, where no 257th sheet begins
 further-refuses : (size : ℕ) (ws : List Schema) (r : Step (List Schema)) {r′ : Step (List Schema)} → Alike (Moved size) (next r λ vs e. got (ws ++ vs) e) r′
-    → ((p : ℕ) → r′ ≡ bad tooManySheets p → ⊥) → Refuses (Among trainNumbers) r → Refuses (Among readingNumbers) r
+    → NotTooMany r′ → Refuses (Among trainNumbers) r → Refuses (Among readingNumbers) r
 unfolding next
 further-refuses size ws (got vs e) a h g = gives
 further-refuses size ws (bad n p) (alike.refusal {p′ = q} a) h (stops g) = stops (among-front readingNumbers tooManySheets n g λ e. h q (ap (λ n. bad n q) e))

@@ -37,6 +37,7 @@ pub record SameBehind (place place′ : (number further : ℕ) → ℕ) (e e′ 
   pub number : e .number ≡ e′ .number
   pub length : e .length ≡ e′ .length
   pub answer : written e ≡ written e′
+  -- the byte or the sheet of what comes further
   pub further : ℕ
   pub placed : e .place ≡ place (e .number) further
   pub placed′ : e′ .place ≡ place′ (e′ .number) further
