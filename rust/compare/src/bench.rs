@@ -4,7 +4,7 @@ use crate::request::{Operation, Request};
 use crate::side::Side;
 use crate::tally::Tally;
 use oracle::call::{Exit, on_sheets, without_sheets};
-use oracle::number::CLASH_ORDERED;
+use oracle::number::{ACCEPTED, CLASH_ORDERED};
 use oracle::operations::{self, Mode, Outcome};
 use std::fmt;
 
@@ -21,8 +21,18 @@ pub(crate) struct Bench {
     patterns: Buffers,
     expected: Buffers,
     found: Buffers,
+    /// How the last request ended, by the oracle.
+    exit: Exit,
     /// The requests made here.
     pub(crate) tally: Tally,
+}
+
+/// What a request left on both sides.
+#[derive(Clone, Debug, PartialEq, Eq)]
+pub(crate) struct Left {
+    pub(crate) exit: Exit,
+    /// The answer; empty after a refusal.
+    pub(crate) answer: Vec<u8>,
 }
 
 /// What went wrong at a request.
@@ -45,6 +55,8 @@ enum Wrong {
     },
     /// The oracle's merge in the mode parked log first is not what the Rust's own lets it be.
     Mode { rust: Outcome, parked: Outcome },
+    /// Requests that have to do with this one break a law, as this text shows.
+    Law(String),
 }
 
 impl Bench {
@@ -55,6 +67,11 @@ impl Bench {
             patterns: Buffers::default(),
             expected: Buffers::default(),
             found: Buffers::default(),
+            exit: Exit {
+                number: ACCEPTED,
+                place: 0,
+                length: 0,
+            },
             tally: Tally::new(),
         }
     }
@@ -72,6 +89,7 @@ impl Bench {
         self.expected.lend(request, &self.patterns);
         self.found.lend(request, &self.patterns);
         let expected = self.expected.settle(request, outcome);
+        self.exit = expected;
         let found = self
             .side
             .call(request, &mut self.found.work, &mut self.found.answer);
@@ -92,6 +110,30 @@ impl Bench {
                 work: first_difference(&self.expected.work, &self.found.work),
             },
         }))
+    }
+
+    /// Runs a request on which the oracle's operation gives this, and gives what it left. Where
+    /// it is no difference both sides left the same, so what is found of it holds of each.
+    pub(crate) fn left(
+        &mut self,
+        request: &Request,
+        outcome: Outcome,
+    ) -> Result<Left, Box<Difference>> {
+        self.run(request, outcome)?;
+        Ok(Left {
+            exit: self.exit,
+            answer: self.expected.answer[..self.exit.length].to_vec(),
+        })
+    }
+}
+
+impl Difference {
+    /// Requests that break a law; this one is among them, and the text shows the rest.
+    pub(crate) fn from_a_law(request: &Request, text: String) -> Box<Self> {
+        Box::new(Self {
+            request: request.clone(),
+            wrong: Wrong::Law(text),
+        })
     }
 }
 
@@ -154,7 +196,8 @@ fn first_difference(expected: &[u8], found: &[u8]) -> Option<(usize, u8, u8)> {
     })
 }
 
-fn hex(bytes: &[u8]) -> String {
+/// Bytes as a difference shows them.
+pub(crate) fn hex(bytes: &[u8]) -> String {
     bytes.iter().map(|byte| format!("{byte:02x}")).collect()
 }
 
@@ -207,6 +250,7 @@ impl fmt::Display for Wrong {
                 writeln!(f, "the oracle's parked log first: {}", said(parked))?;
                 writeln!(f, "they must be the same, unless the Rust's is 20")
             }
+            Self::Law(text) => f.write_str(text),
         }
     }
 }

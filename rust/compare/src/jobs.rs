@@ -5,7 +5,7 @@ use crate::bench::{Bench, Difference};
 use crate::request::Operation;
 use crate::side::Side;
 use crate::tally::Tally;
-use crate::{fixed, generate, short};
+use crate::{containment, fixed, generate, saved, short};
 use oracle::random::Random;
 use std::sync::Mutex;
 use std::sync::atomic::{AtomicUsize, Ordering};
@@ -15,6 +15,15 @@ pub(crate) const JOB: usize = 500;
 
 /// One random request in so many is looked at for dictionary numbers.
 const LOOKED_AT: usize = 20;
+
+/// For so many random requests one train is held to the law of saved answers, and one chain of
+/// sheets to those of containment; so many of them make a job.
+const FOR_A_TRAIN: usize = 40;
+const FOR_A_CHAIN: usize = 40;
+const LAWS: usize = 50;
+
+/// The seeds of what is held to a law are no others.
+const SEEDS_OF_LAWS: u64 = 1 << 48;
 
 /// A part of a run.
 #[derive(Clone, Copy, Debug)]
@@ -36,11 +45,15 @@ pub(crate) enum Job {
     Ids(usize),
     /// So many random requests of a seed.
     Random(Operation, u64, usize),
+    /// Trains from one of them on, so many, each cut and held to the law of saved answers.
+    Saved(Operation, usize, usize),
+    /// Chains of sheets from one of them on, so many, held to the laws of containment.
+    Containment(usize, usize),
 }
 
 /// The jobs of a run: the fixed list, what is short (byte strings up to `longest` bytes, and
-/// of telling bytes up to two more, as sheets; columns of every map), and `count` random
-/// requests for each operation.
+/// of telling bytes up to two more, as sheets; columns of every map), `count` random requests
+/// for each operation, and in proportion to them what is held to a law.
 pub(crate) fn plan(operations: &[Operation], count: usize, longest: usize) -> Vec<Job> {
     let mut jobs: Vec<Job> = operations
         .iter()
@@ -62,7 +75,31 @@ pub(crate) fn plan(operations: &[Operation], count: usize, longest: usize) -> Ve
             jobs.push(Job::Random(operation, seed, JOB.min(count - from)));
         }
     }
+    jobs.extend(laws(operations, count));
     jobs
+}
+
+/// The jobs that hold the operations to laws of more than one request.
+fn laws(operations: &[Operation], count: usize) -> Vec<Job> {
+    let parts = |whole: usize| {
+        let froms = (0..whole).step_by(LAWS);
+        froms.map(move |from| (from, LAWS.min(whole - from)))
+    };
+    let mut jobs = Vec::new();
+    for (from, trains) in parts(count.div_ceil(FOR_A_TRAIN)) {
+        let merges = operations.iter().filter(|operation| operation.merges());
+        jobs.extend(merges.map(|&merge| Job::Saved(merge, from, trains)));
+    }
+    if operations.contains(&Operation::Contains) {
+        let chains = parts(count.div_ceil(FOR_A_CHAIN));
+        jobs.extend(chains.map(|(from, chains)| Job::Containment(from, chains)));
+    }
+    jobs
+}
+
+/// The numbers for what is held to a law of this operation, from one of them on.
+fn random_for_a_law(operation: Operation, from: usize) -> Random {
+    Random::new(SEEDS_OF_LAWS | (operation as u64) << 40 | from as u64)
 }
 
 impl Job {
@@ -88,6 +125,15 @@ impl Job {
                     }
                     bench.run(&request, outcome)
                 })
+            }
+            Self::Saved(operation, from, count) => {
+                let mut random = random_for_a_law(operation, from);
+                let mut turns = from..from + count;
+                turns.try_for_each(|turn| saved::run(bench, &mut random, operation, turn))
+            }
+            Self::Containment(from, count) => {
+                let mut random = random_for_a_law(Operation::Contains, from);
+                (0..count).try_for_each(|_| containment::run(bench, &mut random))
             }
         }
     }
@@ -151,13 +197,34 @@ mod tests {
 
     #[test]
     fn a_plan_has_as_many_requests_as_it_was_asked_for() {
-        let operations = [Operation::Contains, Operation::IndexOf];
+        let operations = [Operation::Equal, Operation::IndexOf];
         let (tally, _) = run(&plan(&operations, 1300, 0), 2, &|| Box::new(Oracle));
         let (fixed, _) = run(&plan(&operations, 0, 0), 2, &|| Box::new(Oracle));
         for operation in operations {
             let random = tally.requests_of(operation) - fixed.requests_of(operation);
             assert_eq!(random, 1300);
         }
+    }
+
+    #[test]
+    fn laws_are_tried_in_proportion_and_a_longer_run_begins_as_a_shorter_one_does() {
+        let planned = |operations: &[Operation], count| -> Vec<String> {
+            let jobs = laws(operations, count).into_iter();
+            jobs.map(|job| format!("{job:?}")).collect()
+        };
+        assert_eq!(planned(&[Operation::Equal], 10_000), [""; 0]);
+        let merges = [Operation::Merge, Operation::MergeParkedFirst];
+        let short = planned(&merges, 4020);
+        let last = [
+            "Saved(Merge, 50, 50)",
+            "Saved(MergeParkedFirst, 50, 50)",
+            "Saved(Merge, 100, 1)",
+            "Saved(MergeParkedFirst, 100, 1)",
+        ];
+        assert_eq!(short[2..], last);
+        assert_eq!(planned(&merges, 8000)[..4], short[..4]);
+        let chains = planned(&[Operation::Contains], 2001);
+        assert_eq!(chains, ["Containment(0, 50)", "Containment(50, 1)"]);
     }
 
     #[test]

@@ -3,22 +3,26 @@
 //!
 //! First the fixed list, then all that is short, then COUNT random requests for each
 //! operation, with fixed seeds. A merge that is parked log first, which the oracle does by hand
-//! in part, is held to the Rust's own merge too. It prints how often each number came up at
-//! each operation.
+//! in part, is held to the Rust's own merge too. Then trains are cut, to try merging onto a saved
+//! answer, and chains of sheets are asked whether they contain one another. It prints how often
+//! each number came up at each operation, and in the pairs of merges that were held to each other.
 //! Status 0 and the last line `compare: N requests, no difference` where both sides agree;
 //! status 1 and the first difference where they do not, or where, in a run of at least the
-//! default count, a number that an operation can give never came up, or dictionary numbers came
-//! up too seldom.
+//! default count, a number that an operation or such a pair can give never came up, dictionary
+//! numbers came up too seldom, or no chain did.
 //!
 //! `compare --record FILE` writes a sample of the oracle's answers: the stored list that the
 //! program crates/replay goes through with no Rust at hand.
 
 mod bench;
+mod containment;
 mod fixed;
 mod generate;
 mod jobs;
+mod laws;
 mod record;
 mod request;
+mod saved;
 mod short;
 mod side;
 mod tally;
@@ -174,6 +178,7 @@ fn judge(tally: &tally::Tally, operations: &[Operation], all: bool) -> bool {
     let strange = tally.strange(operations);
     let missing = tally.missing(operations);
     let scarce = tally.scarce(operations);
+    let untried = tally.laws.untried(operations);
     for (operation, number) in &strange {
         println!(
             "compare: {} gave {number}, which it cannot",
@@ -186,7 +191,11 @@ fn judge(tally: &tally::Tally, operations: &[Operation], all: bool) -> bool {
     for operation in &scarce {
         println!("compare: {} has few dictionary numbers", operation.name());
     }
-    strange.is_empty() && (missing.is_empty() && scarce.is_empty() || !all)
+    for law in &untried {
+        println!("compare: {law}");
+    }
+    let enough = missing.is_empty() && scarce.is_empty() && untried.is_empty();
+    strange.is_empty() && (enough || !all)
 }
 
 #[cfg(test)]
@@ -253,6 +262,22 @@ mod tests {
         assert!(!judge(&tally, &operations, true));
         let sheet = vec![2, 1, 0, 16, 1, 0, 0, 0, 0, 0, 0, 0, 2];
         tally.look_at(&request::Request::new(Operation::IsNested, sheet));
+        assert!(judge(&tally, &operations, true));
+    }
+
+    #[test]
+    fn laws_that_were_not_tried_fail_a_run_of_the_default_count_alone() {
+        let operations = [Operation::Contains];
+        let mut tally = tally::Tally::new();
+        let numbers = Operation::Contains.numbers().into_iter();
+        numbers.for_each(|number| tally.add(Operation::Contains, number, &[]));
+        let sheet = vec![2, 1, 0, 16, 1, 0, 0, 0, 0, 0, 0, 0, 2];
+        let mut request = request::Request::new(Operation::Contains, sheet);
+        request.second = vec![0];
+        tally.look_at(&request);
+        assert!(judge(&tally, &operations, false));
+        assert!(!judge(&tally, &operations, true));
+        tally.laws.chain(true);
         assert!(judge(&tally, &operations, true));
     }
 

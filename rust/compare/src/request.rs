@@ -155,7 +155,12 @@ impl Operation {
 
     /// Bytes left after a sheet are a train's next sheet.
     fn never_reads_to(self, number: u8) -> bool {
-        self.takes() == Takes::TrainAndMode && number == n::BYTES_LEFT
+        self.merges() && number == n::BYTES_LEFT
+    }
+
+    /// Whether it is the merge, in either mode.
+    pub(crate) fn merges(self) -> bool {
+        self.takes() == Takes::TrainAndMode
     }
 
     /// The number of a request where nothing else is said: the mode of a merge, else 0.

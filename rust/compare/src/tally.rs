@@ -1,11 +1,12 @@
 //! How many requests each operation had, how often each number came up, and whether dictionary
 //! numbers did.
 
+use crate::laws::Laws;
 use crate::request::{Operation, Request, Takes};
 use std::fmt;
 
 /// One more than the largest number of document 01's table.
-const NUMBERS: usize = 36;
+pub(crate) const NUMBERS: usize = 36;
 
 /// The counts of one run, or of a part of it.
 #[derive(Clone)]
@@ -16,10 +17,18 @@ pub(crate) struct Tally {
     /// The requests that were looked at, and of these the ones that have dictionary numbers.
     looked_at: [u64; Operation::ALL.len()],
     with_dict_ids: [u64; Operation::ALL.len()],
+    /// The laws that take more than one request.
+    pub(crate) laws: Laws,
 }
 
 /// Of the requests that are looked at, one in so many at least must have dictionary numbers.
 const SCARCE: u64 = 10;
+
+/// Adds counts to counts.
+pub(crate) fn add(counts: &mut [u64], more: &[u64]) {
+    let counts = counts.iter_mut().zip(more);
+    counts.for_each(|(count, more)| *count += more);
+}
 
 impl Tally {
     /// No requests yet.
@@ -29,6 +38,7 @@ impl Tally {
             yes: [0; Operation::ALL.len()],
             looked_at: [0; Operation::ALL.len()],
             with_dict_ids: [0; Operation::ALL.len()],
+            laws: Laws::new(),
         }
     }
 
@@ -49,14 +59,11 @@ impl Tally {
 
     /// Adds the counts of another part.
     pub(crate) fn join(&mut self, other: &Self) {
-        let add = |counts: &mut [u64], more: &[u64]| {
-            let counts = counts.iter_mut().zip(more);
-            counts.for_each(|(count, more)| *count += more);
-        };
         add(self.counts.as_flattened_mut(), other.counts.as_flattened());
         add(&mut self.yes, &other.yes);
         add(&mut self.looked_at, &other.looked_at);
         add(&mut self.with_dict_ids, &other.with_dict_ids);
+        self.laws.join(&other.laws);
     }
 
     /// All requests.
@@ -142,7 +149,7 @@ impl fmt::Display for Tally {
             }
             writeln!(f)?;
         }
-        Ok(())
+        self.laws.fmt(f)
     }
 }
 

@@ -33,6 +33,8 @@ fn two_sides_that_agree_end_well() {
         "try_from_fields ",
         "merge ",
         "merge_parked_first ",
+        "onto a saved answer ",
+        "containment: ",
     ] {
         assert!(text.contains(operation), "{text}");
     }

@@ -1,11 +1,15 @@
 //! Random requests: fixed seeds, the same requests in every run.
 
+pub(crate) mod cut;
 mod damage;
 mod parameters;
 mod parked;
 mod source;
 mod trains;
 mod vary;
+
+pub(crate) use parameters::mode;
+pub(crate) use source::chain;
 
 use crate::request::{Operation, Request, Takes};
 use oracle::operations::Outcome;

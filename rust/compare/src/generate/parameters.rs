@@ -146,7 +146,7 @@ pub(super) fn level(random: &mut Random) -> u16 {
 }
 
 /// The mode of a merge: now and then another number of the mode than the usual one.
-pub(super) fn mode(random: &mut Random, operation: Operation) -> u16 {
+pub(crate) fn mode(random: &mut Random, operation: Operation) -> u16 {
     match operation {
         Operation::MergeParkedFirst if random.once_in(4) => random.pick(&PARKED_FIRST),
         _ => operation.usual_number(),

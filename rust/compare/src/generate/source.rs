@@ -55,6 +55,14 @@ pub(super) fn pair(random: &mut Random) -> (Vec<u8>, Vec<u8>) {
     }
 }
 
+/// Three sheets, of which each is likely to contain the next.
+pub(crate) fn chain(random: &mut Random) -> [Vec<u8>; 3] {
+    let last = schema(random);
+    let middle = vary::containing(random, &last);
+    let first = vary::containing(random, &middle);
+    [first, middle, last].map(|schema| written(&schema))
+}
+
 /// A schema: an ordinary one, a deep one or a large one.
 pub(super) fn schema(random: &mut Random) -> Schema {
     if random.once_in(LARGE) {
@@ -92,7 +100,7 @@ pub(super) fn perhaps_with_0(random: &mut Random, schema: &Schema) -> Vec<u8> {
 /// Bytes that begin like a sheet and go on at random: a column, one with a dictionary number,
 /// one below many lists, metadata with keys in any order, a union with any ids, or nothing of a
 /// sheet.
-fn telling(random: &mut Random) -> Vec<u8> {
+pub(super) fn telling(random: &mut Random) -> Vec<u8> {
     let count = random.below(5) as u8;
     let lists = LEVELS - 3 + random.below(4);
     let mut bytes = match random.below(7) {

@@ -11,13 +11,17 @@ use oracle::random::{self, Random};
 /// A train, damaged or not.
 pub(super) fn train(random: &mut Random) -> Vec<u8> {
     match random.below(400) {
-        0 => return many(random),
-        1 => return long(random),
-        2 => return Vec::new(),
-        3 => return filling(random),
-        4..21 => return unions(random),
-        _ => {}
+        0 => many(random),
+        1 => long(random),
+        2 => Vec::new(),
+        3 => filling(random),
+        4..21 => unions(random),
+        _ => related(random),
     }
+}
+
+/// Up to four sheets, each related to the one before most of the time, damaged or not.
+pub(super) fn related(random: &mut Random) -> Vec<u8> {
     let mut schema = source::schema(random);
     let mut bytes = source::perhaps_with_0(random, &schema);
     for _ in 0..random.below(4) {
@@ -54,13 +58,13 @@ fn many(random: &mut Random) -> Vec<u8> {
 }
 
 /// Two sheets near the limit.
-fn long(random: &mut Random) -> Vec<u8> {
+pub(super) fn long(random: &mut Random) -> Vec<u8> {
     let sheets = [(); 2].map(|()| source::written(&source::large(random)));
     sheets.concat()
 }
 
 /// Two sheets whose merge has 65,535 bytes, a few less or a few more.
-fn filling(random: &mut Random) -> Vec<u8> {
+pub(super) fn filling(random: &mut Random) -> Vec<u8> {
     let most = SHEET_BYTES - 4 + random.below(9);
     let long = "n".repeat(20_000 + random.below(20_000));
     // two that clash fill nothing
@@ -87,7 +91,7 @@ fn with_column(schema: &Schema, name: String) -> Schema {
 }
 
 /// Sheets with a union each: few children, few ids, so that children and ids meet.
-fn unions(random: &mut Random) -> Vec<u8> {
+pub(super) fn unions(random: &mut Random) -> Vec<u8> {
     let sheets = 2 + random.below(2);
     (0..sheets)
         .flat_map(|_| source::written(&union(random)))

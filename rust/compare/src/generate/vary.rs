@@ -38,6 +38,24 @@ pub(super) fn mergeable(random: &mut Random, schema: &Schema) -> Schema {
     }
 }
 
+/// A schema that is likely to contain this one: fields become nullable or have one more key, a
+/// union has one child less, dictionary numbers are others; or one related in any way.
+pub(super) fn containing(random: &mut Random, schema: &Schema) -> Schema {
+    let other = match random.below(8) {
+        0 => related(random, schema),
+        1 => every(schema, random, perhaps_numbered),
+        2 | 3 => every(schema, random, with_a_child_less),
+        _ => every(schema, random, wider),
+    };
+    match random.once_in(3) {
+        true => {
+            let metadata = other.metadata.clone().with("k2", "1");
+            other.with_metadata(metadata)
+        }
+        false => other,
+    }
+}
+
 /// Changes one field, anywhere.
 pub(super) fn one(
     schema: &Schema,
@@ -161,6 +179,18 @@ fn wider(random: &mut Random, field: Field) -> Field {
         }
         _ => field,
     }
+}
+
+/// A union has one child less, if it has any: by the Rust it then contains the one before.
+fn with_a_child_less(random: &mut Random, field: Field) -> Field {
+    let DataType::Union(children, mode) = field.data_type() else {
+        return field;
+    };
+    let gone = random.below(children.len() + 1);
+    let kept = children.iter().enumerate().filter(|&(at, _)| at != gone);
+    let kept = kept.map(|(_, (id, child))| (id, child.clone())).collect();
+    let union = DataType::Union(kept, *mode);
+    field.with_data_type(union)
 }
 
 fn perhaps_null(random: &mut Random, field: Field) -> Field {
