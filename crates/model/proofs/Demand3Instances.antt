@@ -60,7 +60,7 @@ no-name-twice (suc l) t h =
     let (p, q) = and-true (not (eqb (t .code) Struct) || distinct (names (t .children))) _ h in
     (struct-names (t .code) (names (t .children)) p, all-every (λ f. noNameTwice l (f .dataType)) (λ f. NoNameTwice l (f .dataType)) (λ f e. no-name-twice l (f .dataType) e) (t .children) q)
 
-whole : (s : Bytes) {x : Schema} → all (λ b. ltb b 256) s ≡ true → readSheet s ≡ got x (length s) → WholeSheet s
+pub whole : (s : Bytes) {x : Schema} → all (λ b. ltb b 256) s ≡ true → readSheet s ≡ got x (length s) → WholeSheet s
 whole s {x} b r = record { bytes = are-bytes s b; schema = x; reads = r }
 
 sheet : (s : Bytes) {x : Schema} → all (λ b. ltb b 256) s ≡ true → readSheet s ≡ got x (length s) → all (λ f. noNameTwice maxLevels (f .dataType)) (x .columns) ≡ true → SheetOfDemand3 s

@@ -54,5 +54,6 @@ pub mod Demand3
 pub mod Demand3Instances
 -- document 02, Item 1
 pub mod Containment
+pub mod ContainmentInstances
 pub mod SavedAnswer
 pub mod SavedAnswerInstances

@@ -56,6 +56,12 @@ instance-onto true =
     merges-onto-saved-answer true P3 (are-bytes P3 refl) (zeros 64) (zeros 8) refl log (zeros 100) (zeros 200) (zeros 20) (zeros 20)
     (reads-through (saved ++ log) refl) (reads-through (P3 ++ log) refl) (leb→le 84 100 tt) (leb→le 116 200 tt) refl
 
+-- behind two sheets of 16 bytes: a clash at the further sheet 1, an unknown bit at the further byte 1, and no place for 30, 31 and acceptance
+pub places-counted :
+    (placeBehind 2 16 22 1 ≡ 3) × (placeBehind 2 16 2 1 ≡ 17) × (placeBehind 2 16 30 1 ≡ 0) × (placeBehind 2 16 31 1 ≡ 0) × (placeBehind 2 16 0 1 ≡ 0)
+unfolding opened placeBehind
+places-counted = (refl, refl, refl, refl, refl)
+
 -- parked log first, P5's two sheets come to a nullable ordered dictionary, and then an unordered one clashes, at another place
 
 abbrev P5 : Bytes
