@@ -103,6 +103,10 @@ both "a clash, all logs at once" "20 3 -" examples/parked.sheet examples/driven.
 both "the clash onto the saved table" "20 2 -" examples/table.sheet examples/newer.sheet examples/ordered.sheet
 check "./run: a cut log, all logs at once" "1 23 -" ./run examples/parked.sheet examples/driven.sheet <(sheet '') </dev/null
 check "./run: the cut log onto the saved table" "1 15 -" ./run examples/table.sheet <(sheet '') </dev/null
+# the program's own limit: all logs at once may be above it where the table and the new log are not
+both_columns=$({ printf '\x02\x02\x00'; long 8000 | tail -c +4; printf '\x04\x01\x00v\x04'; } | in_hex)
+check "./run: all logs at once above 16,000 bytes" "35 0 -" ./run <(long 8000) <(long 8000) examples/driven.sheet </dev/null
+check "./run: the new log onto their table" "0 0 $both_columns" ./run <(long 8000) examples/driven.sheet </dev/null
 
 # quiet WHAT: the program ran and had no line to print, or could not print it: nothing is printed, and standard error says why
 quiet() {
