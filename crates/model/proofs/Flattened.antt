@@ -113,7 +113,7 @@ module _ {s : Bytes} where
     unfolding each_at join
     each_stands place [] h = none
     each_stands place (x ∷ xs) h =
-        pairwise_append (one-stands place x (stands_front (write x) (each write xs) h)) (each_stands _ xs (stands_behind (write x) (each write xs) _ refl h))
+        pairwise_append (one-stands place x (stands_front (write x) (each write xs) h)) (each_stands (place + length (write x)) xs (stands_behind (write x) (each write xs) _ refl h))
 
     after_first_stands : (place : ℕ) (xs : List A) → Stands s place (each write xs)
         → PairwiseStands s (after_first write one place xs) (join flat (drop 1 xs))

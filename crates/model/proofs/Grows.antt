@@ -483,6 +483,7 @@ pub record SchemaGrew (parked : Bool) (x y : Schema) : Type 0 where
 columns_longer : (xs ys : List (Field 32)) → Begins (λ f g. length (column_bytes f) ≤ length (column_bytes g)) xs ys → length (part (with_count column_bytes) xs) ≤ length (part (with_count column_bytes) ys)
 unfolding with_count u16
 columns_longer [] ys h = omega arith
+columns_longer (x ∷ xs) [] h = elim h [ ]
 columns_longer (x ∷ xs) (y ∷ ys) h = omega (arith, each_longer column_bytes (λ f g p. p) h)
 
 pub schema_grows : (parked : Bool) (x y : Schema) → Standing x → Every (λ f. Tidy 32 f.data_type) y.columns → Gives (λ z. Standing z × SchemaGrew parked x z) (merge_schema parked x y)

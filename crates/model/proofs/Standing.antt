@@ -19,6 +19,7 @@ use Rattle.model.proofs.NothingLost.{merge_from_pour}
 
 -- the name of one among several from which another is apart
 apart_from : {T : Type 0} (n : Bytes) (gs : List (FieldOver T)) (h : FieldOver T) → Memᴰ h gs → Every (λ m. same_bytes n m ≡ false) (names gs) → same_bytes h.head.name n ≡ false
+apart_from n [] h m d = elim m [ ]
 apart_from n (g ∷ gs) h (Memᴰ.head e) d = differ_same_bytes _ _ λ k. same_bytes_differ n g.head.name d.0 (sym k ∙ ap (λ h. h.head.name) e)
 apart_from n (g ∷ gs) h (Memᴰ.tail i) d = apart_from n gs h i d.1
 
@@ -43,6 +44,7 @@ module _ {T A : Type 0} (counts : FieldOver T → Bool) (part : FieldOver T → 
   -- a field that counts stands for itself, where no other has its name
   standing_own : (gs : List (FieldOver T)) (h : FieldOver T) (o : A) → Apart (names gs) → Memᴰ h gs → counts h ≡ true → standing h.head.name gs o ≡ part h
   unfolding standing
+  standing_own [] h o d m n = elim m [ ]
   standing_own (g ∷ gs) h o d (Memᴰ.head e) n =
       subst (λ g. cond (same_bytes h.head.name g.head.name && counts g) (part g) (standing h.head.name gs o) ≡ part h) e (rw (same_bytes_refl h.head.name, n))
   standing_own (g ∷ gs) h o d (Memᴰ.tail i) n = rw (apart_from g.head.name gs h i d.0) (standing_own gs h o d.1 i n)
