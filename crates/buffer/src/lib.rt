@@ -3,6 +3,8 @@
 // It renders document 01, "Numbers a call gives": the three numbers that a call gives; 30, 31 and 32; "It writes nothing to the answer
 // buffer; acceptance writes exactly the answer at its start. The work buffer is untouched after 32, else all zero." The Rust has no
 // such buffers: what it makes, it owns.
+#![tactic(auto)]
+
 ghost use Rattle.std.specs.Prelude.{◌≡◌, [], ◌∷◌, ◌+◌, ◌*◌, ◌/◌, ◌%◌, ◌≤◌, ◌<◌, length, ltb};
 ghost use Rattle.model.specs.Numbers.{work_bytes_per_sheet_byte};
 ghost use Rattle.model.specs.Bytes.{Bytes, u16};
@@ -25,7 +27,7 @@ pub fn wide(x: u8) -> usize
 }
 
 // What every call gives: the number, its place, and how many bytes of the answer buffer are the answer.
-#[derive(Drop)]
+#[derive(Clone, Copy)]
 pub struct Outcome {
     pub number: u8,
     pub place: usize,

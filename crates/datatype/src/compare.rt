@@ -15,7 +15,7 @@ ghost use Rattle.datatype.specs.Comparisons.{same_head, contains_head, compare_h
 use crate::metadata::{contains_metadata, of_head, same_name, same_stretch};
 
 // `==`, `DataType::equals_datatype`, `DataType::contains`.
-#[derive(Drop)]
+#[derive(Clone, Copy)]
 pub enum Comparison {
     Equal,
     EqualsDatatype,

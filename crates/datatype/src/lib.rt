@@ -1,6 +1,8 @@
 // Document 01, module 2, types: `DataType::is_nested` of each column, plain equality, `==` of `DataType` (datatype.rs) and of `Field`
 // (field.rs, `PartialEq for Field`), `equals_datatype` and `contains`. Sheets that have been read are gone over, two of them side by side.
 // Nothing here tests the format again: each function takes any bytes and any places, and says what it answers where the parts stand there.
+#![tactic(auto)]
+
 mod compare;
 pub mod metadata;
 
@@ -41,7 +43,7 @@ pub fn same_field(s: &[u8], a: usize, t: &[u8], b: usize, levels: usize) -> bool
 }
 
 // The position of the first union child that matches, or none.
-#[derive(Drop)]
+#[derive(Clone, Copy)]
 pub enum Match {
     First(usize),
     Missing,

@@ -9,7 +9,7 @@ ghost use Rattle.walk.specs.Stands.{Stands};
 ghost use Rattle.datatype.specs.Comparisons.{PairsAt};
 
 // How many keys metadata has, and where the first stands.
-#[derive(Drop)]
+#[derive(Clone, Copy)]
 pub struct Pairs {
     pub count: usize,
     pub at: usize,

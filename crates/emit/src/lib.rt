@@ -1,6 +1,8 @@
 // The sheet of the schema that the table spells: document 01, "Merging, projection, filtering and normalising write a sheet." The table
 // refers to the train for names, pairs and types, so most of the sheet is copied from there. The functions take any bytes and any places;
 // where the parts that they are for stand there, they put what the parts spell.
+#![tactic(auto)]
+
 ghost use Rattle.std.specs.Prelude.{◌≡◌, [], ◌∷◌, ℕ, ◌≤◌, get_or};
 ghost use Rattle.model.specs.Bytes.{Bytes, flag};
 ghost use Rattle.model.specs.Tree.{Field, Schema};

@@ -1,6 +1,8 @@
 // The calls for the Rust desk and for C. Document 01: "The desk program stays in Rust and calls in with numbers and byte slices". Each is
 // the call of its crate: the number is given back, place and length are written where the caller says, and the promise is the same.
 // A slice is a pointer and a length; include/sheets.h declares them for C.
+#![tactic(auto)]
+
 ghost use Rattle.std.specs.Prelude.{◌≡◌, [], true, false};
 ghost use Rattle.model.specs.Call.{try_new_call, try_from_fields_call, is_nested_call, equal_call, equals_datatype_call, contains_call, merge_call, mode_of, index_of_call, flattened_fields_call, project_call, normalize_call, filter_call};
 ghost use Rattle.exports.specs.Told.{told};

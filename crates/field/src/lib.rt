@@ -1,6 +1,8 @@
 // Document 01, module 4, field merge: `Field::try_merge` of field.rs, in the table of the work buffer. s is the train, w the work buffer, of
 // which `used` bytes hold the table. The functions take any bytes and any places; where a table and incoming parts stand there, with room
 // for four bytes for each byte that comes in, they do what the definitions of specs/Claims.antt say.
+#![tactic(auto)]
+
 ghost use Rattle.std.specs.Prelude.{◌≡◌, ◌||◌, length, eqb};
 ghost use Rattle.model.specs.Tree.{List', LargeList};
 ghost use Rattle.field.specs.Claims.{HasNull, OrdersAgree, OpensStruct, MergesField, MergesRest, MergesType, MergesSameCode, MergesEqual, MergesStruct, MergesList, SetsFlags, Pours, Puts};
@@ -22,7 +24,7 @@ const ORDERED_CLASH: u8 = 20;
 const TYPE_CLASH: u8 = 22;
 
 // What putting one field into a row ends with, and where to look first for the next one.
-#[derive(Drop)]
+#[derive(Clone, Copy)]
 struct Placed {
     merged: Merged,
     next: usize,

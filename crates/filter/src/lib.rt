@@ -1,6 +1,8 @@
 // Document 01, module 6, the leaf filter: `Fields::try_filter_leaves` of fields.rs. A sheet that was read is gone over once, and what is
 // kept of it is written into the work buffer. Nothing here tests the format again: each function takes any bytes and any place, and says
 // what it keeps where the part that it is for stands there.
+#![tactic(auto)]
+
 ghost use Rattle.std.specs.Prelude.{◌≡◌, ◌+◌, ◌≤◌, ◌<◌, eqb};
 ghost use Rattle.model.specs.Numbers.{max_sheet_bytes};
 ghost use Rattle.model.specs.Bytes.{choose};
@@ -24,7 +26,7 @@ const DICTIONARY: usize = 34;
 const RUN_END_ENCODED: usize = 40;
 
 // How far a walk came: the place in the sheet, the number of the next leaf, and the position in the work buffer.
-#[derive(Drop)]
+#[derive(Clone, Copy)]
 struct Reach {
     at: usize,
     leaf: usize,
@@ -32,7 +34,7 @@ struct Reach {
 }
 
 // How far a walk over children came, and how many were kept.
-#[derive(Drop)]
+#[derive(Clone, Copy)]
 struct Row {
     at: usize,
     leaf: usize,
@@ -41,7 +43,7 @@ struct Row {
 }
 
 // What a type is to the filter: without a leaf below it, so that its field is one itself; or gone over, and what was kept of it written.
-#[derive(Drop)]
+#[derive(Clone, Copy)]
 enum Sifted {
     Leaf,
     Nested(Reach),

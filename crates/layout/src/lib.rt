@@ -1,5 +1,7 @@
 // The table of the 41 types as the code reads it: document 01, "A type is a code byte 0 to 40 in the order of `enum DataType`, then
 // parameters, then children." Reading a sheet and going over one that was read look types up here.
+#![tactic(auto)]
+
 ghost use Rattle.std.specs.Prelude.{◌≡◌, true};
 ghost use Rattle.model.specs.Tree.{layout, leaf};
 ghost use Rattle.layout.specs.Kinds.{params_by, children_by};

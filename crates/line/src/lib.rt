@@ -1,6 +1,8 @@
 // The line that the program prints, in a mode. Document 01: "number, space, place, space, the answer in lower-case hex or `-`". It is written
 // here, into a buffer, and the promise gives every byte of it: what is left to the program is to read and to write.
 // The Rust has no such program.
+#![tactic(auto)]
+
 ghost use Rattle.std.specs.Prelude.{◌*◌, ◌<◌, ◌≡◌};
 ghost use Rattle.model.specs.Bytes.{Bytes};
 ghost use Rattle.model.specs.Sheet.{each};

@@ -2,6 +2,8 @@
 // buffer, of which `used` bytes hold the table. A union in the table has a row of places, at each of which one of its children stands in the
 // train. The functions take any bytes and any places; where the parts that they are for stand there, of at most so many levels, they do what
 // the definitions of specs/Claims.antt say.
+#![tactic(auto)]
+
 ghost use Rattle.std.specs.Prelude.{◌≡◌, length, get_or, eqb};
 ghost use Rattle.members.specs.Rows.{by_id};
 ghost use Rattle.members.specs.Claims.{SameMembers, SkipsMember, FindsChildren, FindsMember, FindsId, TellsIds, MergesMember, MergesMembers, InsertsMembers, OpensRaw, OpensUnion, MergesUnion};
@@ -15,7 +17,7 @@ const EQUAL_CHILD_CLASH: u8 = 23;
 const TYPE_ID_CLASH: u8 = 24;
 
 // What the search for an equal child ends with: the first one has the id of the child that comes in, or another; or where the row ends.
-#[derive(Drop)]
+#[derive(Clone, Copy)]
 enum Match {
     SameId,
     OtherId,
@@ -149,7 +151,7 @@ pub fn ids_differ(s: &[u8], w: &[u8], row: usize) -> bool
 }
 
 // The number of a union's children and the place of the first, where the union stands at a place of the train.
-#[derive(Drop)]
+#[derive(Clone, Copy)]
 struct Children {
     count: usize,
     at: usize,

@@ -1,6 +1,8 @@
 // Metadata merged inside the table: the loops of `Field::try_merge` and `Schema::try_merge` over the pairs of what comes in, and the
 // `BTreeMap` of metadata.rs, whose order of keys a row of places keeps. The functions take any bytes and any places; where the parts that
 // they are for stand there, they do what they say.
+#![tactic(auto)]
+
 ghost use Rattle.std.specs.Prelude.{◌≡◌, ℕ, ◌+◌, length, true};
 ghost use Rattle.model.specs.Bytes.{Bytes, Metadata, same_bytes, below};
 ghost use Rattle.model.specs.Tree.{Head, Field};

@@ -1,6 +1,8 @@
 // Document 01, module 5, schemas: `Schema::normalize` of schema.rs. The Rust keeps the fields that it has not come to on a stack, each with
 // the parts of its name; here the sheet that was read is gone over in order, with the places of the fields above, and a name is joined only
 // as it is written. The columns are gone over twice: into a buffer of no bytes for their length and number, then into the answer buffer.
+#![tactic(auto)]
+
 ghost use Rattle.std.specs.Prelude.{◌≡◌, List, ◌++◌, ◌&&◌, ◌||◌, ◌+◌, ◌<◌, length, get_or, set, eqb, ltb};
 ghost use Rattle.model.specs.Numbers.{max_levels, max_sheet_bytes};
 ghost use Rattle.model.specs.Tree.{Head, Schema, Struct};
@@ -24,7 +26,7 @@ const STRUCT: usize = 32;
 const SEPARATOR_NOT_UTF8: u8 = 18;
 
 // How far a walk came: the place in the sheet, the position in the answer, and the number of columns before it.
-#[derive(Drop)]
+#[derive(Clone, Copy)]
 struct Reach {
     place: usize,
     written: usize,

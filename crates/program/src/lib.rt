@@ -2,6 +2,8 @@
 // was read is that of `line::program_line`, which is proved to its last byte. No contract can say what the system reads and writes, so this
 // is left to the functions here: the bytes at the buffer's start are those of standard input, to its end or to the 16,001st; and of the
 // buffer with the line as many bytes are written as the line has. 16,001 bytes tell an input that is too long from the longest one.
+#![tactic(auto)]
+
 ghost use Rattle.program.specs.Input.{Within};
 ghost use Rattle.std.specs.Prelude.{length, ◌-◌, ◌≤◌};
 
@@ -15,7 +17,7 @@ const STANDARD_ERROR: i32 = 2;
 const INPUT_BYTES: usize = line::MAX_PROGRAM_BYTES + 1;
 
 // What reading gave: so many bytes; or it failed.
-#[derive(Drop)]
+#[derive(Clone, Copy)]
 enum Input {
     Bytes(usize),
     Failed,

@@ -1,6 +1,8 @@
 // Document 01, module 5, projection: `Schema::project`, which allows repeats, and `SchemaBuilder::project`, the strict one, both of
 // schema.rs. A sheet is read first. Then the places of its columns are written to the work buffer, so that each entry of the list costs
 // the same however many columns there are, and behind them a flag for each column: the Rust's `HashSet` of seen indexes.
+#![tactic(auto)]
+
 ghost use Rattle.std.specs.Prelude.{◌≡◌, List, ◌∷◌, Bool, true, false, ℕ, ◌+◌, ◌*◌, ◌/◌, ◌%◌, ◌≤◌, ◌<◌, length, take, set};
 ghost use Rattle.model.specs.Numbers.{max_levels};
 ghost use Rattle.model.specs.Bytes.{Every, flag};
@@ -21,7 +23,7 @@ use buffer::Outcome;
 use sheet::{Cursor, Step};
 
 // What the check of an entry, or of a list of entries, answers: a refusal is its number and its place.
-#[derive(Drop)]
+#[derive(Clone, Copy)]
 pub enum Checked {
     Valid,
     Refused(u8, usize),

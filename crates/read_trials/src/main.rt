@@ -1,6 +1,8 @@
 // Runs what document 01's "Run:" line says of reading, and prints the number and the place that each gives (0 0: accepted):
 // level 32 and 33; 256 and 257 sheets; 65,535 and 65,536 bytes; id 127 and 128; a sheet that ends inside an item, and one
 // with a byte behind it; two sheets, of which the second is broken.
+#![tactic(auto)]
+
 use sheet::Step;
 
 // A line: what was read, number, space, place.

@@ -3,7 +3,7 @@ ghost use Rattle.std.specs.Prelude.{◌≡◌, length};
 ghost use Rattle.io.specs.Counts.{IsPrefixLen};
 
 // What the list says of a request before its bytes: the operation, its number, and the lengths of the two buffers.
-#[derive(Drop)]
+#[derive(Clone, Copy)]
 pub struct Asked {
     pub operation: u8,
     pub number: u16,
@@ -12,7 +12,7 @@ pub struct Asked {
 }
 
 // The number and the place that the Rust gives.
-#[derive(Drop)]
+#[derive(Clone, Copy)]
 pub struct Told {
     pub number: u8,
     pub place: usize,

@@ -11,6 +11,8 @@
 // The Rust has no mode "parked log first": there the list has what rust/oracle gives, by hand over the Rust's own pieces.
 //
 // It prints how many requests of each operation agree, then `all agree`; or the first request that does not, and nothing behind it.
+#![tactic(auto)]
+
 mod lent;
 mod list;
 

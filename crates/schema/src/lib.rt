@@ -1,5 +1,7 @@
 // Document 01, module 5, schemas: the calls of schema.rs on sheets. So far `Schema::index_of` and `Schema::flattened_fields`. A sheet is
 // read first; then its bytes are gone over once, with no tree in between.
+#![tactic(auto)]
+
 ghost use Rattle.std.specs.Prelude.{◌≡◌, List, ◌∷◌, ℕ, suc, ◌-◌, ◌/◌, ◌≤◌, length};
 ghost use Rattle.model.specs.Numbers.{max_levels};
 ghost use Rattle.model.specs.Bytes.{Bytes, Every, Found, position, same_bytes};
@@ -18,7 +20,7 @@ use buffer::Outcome;
 use sheet::{Cursor, Step};
 
 // The position of the first column that matches, or none.
-#[derive(Drop)]
+#[derive(Clone, Copy)]
 pub enum Match {
     First(usize),
     Missing,
@@ -124,7 +126,7 @@ fn put_number(w: &mut [u8], pos: usize, v: usize) -> usize
 }
 
 // How far a walk came: the place in the sheet, and the position in the work buffer.
-#[derive(Drop)]
+#[derive(Clone, Copy)]
 struct Reach {
     at: usize,
     written: usize,

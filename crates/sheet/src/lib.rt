@@ -1,5 +1,7 @@
 // Reading sheets: document 01, "The sheet" and "Numbers a call gives". The limits, the cursor, items, a sheet, two
 // sheets, a train. Each answer is the definition's (crates/model, Read), without the tree.
+#![tactic(auto)]
+
 ghost use Rattle.std.specs.Prelude.{◌≡◌, ◌<◌, ◌≤◌, ◌+◌, length, [], false, true, ◌-◌, ◌^◌, not, ◌||◌, eqb};
 ghost use Rattle.model.specs.Bytes.{bit};
 ghost use Rattle.model.specs.Tree.{layout};
@@ -16,14 +18,14 @@ ghost use Rattle.model.specs.Tree.Children.{counted, counted_with_ids, key_and_v
 use text::Text;
 
 // A number that was read and the place past it, or the refusal.
-#[derive(Drop)]
+#[derive(Clone, Copy)]
 pub enum Item {
     Is(usize, usize),
     Refused(u8, usize),
 }
 
 // The place past what was read, or the refusal.
-#[derive(Drop)]
+#[derive(Clone, Copy)]
 pub enum Step {
     Next(usize),
     Refused(u8, usize),
@@ -31,7 +33,7 @@ pub enum Step {
 
 // Where a sheet is read: the place of the next byte, and the place behind its byte 65,535. Document 01: "These limits are
 // named constants of the sheet itself."
-#[derive(Drop)]
+#[derive(Clone, Copy)]
 pub struct Cursor {
     pub at: usize,
     pub limit: usize,

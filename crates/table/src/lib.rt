@@ -1,6 +1,8 @@
 // The schema merged so far, as a table in the work buffer: reading it, editing it in place, and looking up a name. Document 01, "What must
 // change shape": "`Arc`, `Vec`, `Box` trees: work on sheet bytes with a cursor, or node tables in arrays." What the bytes mean is in
 // specs/Table.antt. The functions take any bytes and any places; where the parts that they are for stand there, they do what they say.
+#![tactic(auto)]
+
 ghost use Rattle.std.specs.Prelude.{◌≡◌, List, [], ◌∷◌, ◌++◌, ℕ, suc, ◌+◌, ◌*◌, ◌/◌, ◌%◌, ◌≤◌, ◌<◌, length, take, drop, get_or, false, cond, ◌||◌, eqb};
 ghost use Rattle.model.specs.Bytes.{Bytes, Every, same_bytes, flag};
 ghost use Rattle.model.specs.Tree.{Head, DataType, Field};
@@ -18,7 +20,7 @@ use datatype::metadata::{has_name, name_of};
 
 // What a merge into the table ends with: so many bytes are in use then, or the number of the clash. The definition `Says` gives for each what
 // it says of the model's merge.
-#[derive(Drop)]
+#[derive(Clone, Copy)]
 pub enum Merged {
     Used(usize),
     Clash(u8),
@@ -154,7 +156,7 @@ fn is_named(s: &[u8], w: &[u8], at: usize, name: &[u8]) -> bool
 }
 
 // The place of the entry of a name in a row, or that of the row's end.
-#[derive(Drop)]
+#[derive(Clone, Copy)]
 pub enum Found {
     At(usize),
     Absent(usize),

@@ -1,13 +1,15 @@
 // Document 01, module 1, text and metadata: the UTF-8 check of a string, by the syntax of RFC 3629, section 4, and equality
 // and order of byte strings. The Rust has these from `String`, and from the `BTreeMap<String, String>` of metadata.rs.
 // Look-up of a key walks a sheet: datatype has it.
+#![tactic(auto)]
+
 ghost use Rattle.std.specs.Prelude.{◌≡◌, ◌+◌, ◌≤◌, ◌<◌, max, length, take, drop};
 ghost use Rattle.model.specs.Bytes.{num, all, same_bytes, below};
 ghost use Rattle.model.specs.Text.{inside, rows, row_of, utf8};
 ghost use Rattle.text.specs.Text.{text_of, ranges_of, meets, ascii};
 
 // What the check of text answers. Not a bool, since `Broken` is to say where.
-#[derive(Drop)]
+#[derive(Clone, Copy)]
 pub enum Text {
     Valid,
     Broken,
@@ -15,7 +17,7 @@ pub enum Text {
 
 // What must follow the first byte of a character: how many bytes, then the lowest and the highest that the next may be.
 // Each later one is 0x80 to 0xBF.
-#[derive(Drop)]
+#[derive(Clone, Copy)]
 struct Rest(usize, u8, u8);
 
 // The rows of the RFC. A byte that begins no character must be followed by one that is at least 1 and at most 0: by none.

@@ -1,5 +1,7 @@
 // Document 01, module 5: `Schema::try_merge` of schema.rs, as the call on a train of sheets. The train stays where it is; the work buffer holds
 // the table of the schema merged so far (crates/table), and the answer is the sheet that the table spells (crates/emit).
+#![tactic(auto)]
+
 ghost use Rattle.std.specs.Prelude.{◌≡◌, List, ◌*◌, ◌≤◌, length};
 ghost use Rattle.model.specs.Numbers.{max_sheets, work_bytes_per_sheet_byte};
 ghost use Rattle.model.specs.Bytes.{Every};

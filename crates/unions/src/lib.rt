@@ -2,6 +2,8 @@
 // `UnionFields::try_from_fields` and `UnionFields::find_by_type_id` of fields.rs. "A union child's type id and its position are two
 // counters, never used for each other": each has a type of its own. "`u128` of seen ids: an array of flags."
 // The look-up of an equal field compares fields: datatype has it.
+#![tactic(auto)]
+
 ghost use Rattle.std.specs.Prelude.{◌≡◌, [], suc, ◌+◌, ◌≤◌, eqb, get_or, set};
 ghost use Rattle.model.specs.Numbers.{max_type_id};
 ghost use Rattle.model.specs.Bytes.{position};
@@ -15,22 +17,22 @@ ghost use Rattle.unions.specs.Seen.{id_fits_by, marked};
 use buffer::Outcome;
 
 // A union child's type id, 0 to 127.
-#[derive(Drop)]
+#[derive(Clone, Copy)]
 pub struct TypeId(pub u8);
 
 // A union child's position among the children, from 0, which is its id's position in the list of ids.
-#[derive(Drop)]
+#[derive(Clone, Copy)]
 pub struct Position(pub usize);
 
 // What the check of an id, or of a list of ids, answers: a refusal is its number and its place.
-#[derive(Drop)]
+#[derive(Clone, Copy)]
 pub enum Checked {
     Valid,
     Refused(u8, Position),
 }
 
 // What the look-up answers.
-#[derive(Drop)]
+#[derive(Clone, Copy)]
 pub enum Found {
     At(Position),
     Missing,

@@ -1,6 +1,8 @@
 // Going over a sheet that has been read, part by part: document 01, "The sheet", and `DataType::is_nested` of datatype.rs.
 // Nothing here tests the format again. Each function takes any bytes and any place; where the part that it is for stands
 // there, it gives the place behind it. On other bytes its answer means nothing, but nothing goes out of bounds.
+#![tactic(auto)]
+
 ghost use Rattle.std.specs.Prelude.{◌≡◌, ◌++◌, ℕ, ◌+◌, ◌*◌, ◌<◌, ◌≤◌, length, get_or};
 ghost use Rattle.model.specs.Bytes.{Bytes, Metadata, num};
 ghost use Rattle.model.specs.Tree.{Head, Schema, layout};
@@ -266,7 +268,7 @@ pub fn skip_members(s: &[u8], at: usize, count: usize, levels: usize) -> usize
 }
 
 // The number of a sheet's columns and the place of the first, where the sheet stands at a place.
-#[derive(Drop)]
+#[derive(Clone, Copy)]
 pub struct Columns {
     pub count: usize,
     pub at: usize,

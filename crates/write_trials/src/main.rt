@@ -1,5 +1,7 @@
 // Runs what the bench trials say of the calls that write a sheet: the merge (merging.rt); P9 (normalising), P10 (projection),
 // index 0 of no columns, P11 (the leaf filter: one leaf).
+#![tactic(auto)]
+
 mod merging;
 mod showing;
 

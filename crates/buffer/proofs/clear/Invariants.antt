@@ -1,0 +1,15 @@
+-- `buffer::clear` meets its contract. Of the i bytes passed each is 0, and the rest is as it was.
+use mathlib.Core.Path.{◌≡◌, refl, ◌∙◌}
+use mathlib.Core.List.{◌++◌, append-nil}
+use Prim.Native.Nat.{◌-◌, ◌≤◌}
+use native.Mathlib.Omega.{arith}
+use lib.ListN.{length, drop, replicate, length-set, drop_of_length-le}
+use borrow.Author.Fill.{fill_more}
+use Rattle.model.specs.Call.{zeros}
+use Rattle.buffer.proofs.clear.Given as goal
+
+abbrev pub invariant-loop-i : goal.invariant-loop-i
+invariant-loop-i l = (l.i ≤ length l.initial.w) × (l.w ≡ replicate l.i 0 ++ drop l.i l.initial.w) × (length l.w ≡ length l.initial.w)
+
+abbrev pub decreases-loop-i : goal.decreases-loop-i
+decreases-loop-i l = length l.initial.w - l.i

@@ -1,0 +1,15 @@
+-- `buffer::copy_in` meets its contract. The first i bytes of src are written.
+use mathlib.Core.Path.{◌≡◌, refl, sym, ◌∙◌}
+use Prim.Native.Nat.{◌-◌, ◌≤◌}
+use native.Mathlib.Omega.{arith}
+use lib.ListN.{length, take, length-set}
+use lib.Seq.{take_all}
+use Rattle.buffer.specs.Buffer.{pasted}
+use Rattle.buffer.proofs.Pasted.{pasted_nil, copy_turn}
+use Rattle.buffer.proofs.copy_in.Given as goal
+
+abbrev pub invariant-loop-i : goal.invariant-loop-i
+invariant-loop-i l = (l.i ≤ length l.src) × (l.dst ≡ pasted l.initial.dst l.at (take l.i l.src)) × (length l.dst ≡ length l.initial.dst)
+
+abbrev pub decreases-loop-i : goal.decreases-loop-i
+decreases-loop-i l = length l.src - l.i
