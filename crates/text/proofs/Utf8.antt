@@ -1,7 +1,7 @@
 -- UTF-8 character by character: the row of a first byte, what must follow it, one character more; ASCII; the answer.
 use Prim.Native.Nat.{ℕ, zero, suc, ◌+◌, ◌-◌, ◌≤◌, ◌<◌, max}
 use native.Mathlib.Omega.{arith}
-use mathlib.Core.Path.{◌≡◌, refl, sym, ap, ◌∙◌}
+use mathlib.Core.Path.{◌≡◌, refl, sym, ap, subst, ◌∙◌}
 use mathlib.Core.List.{List, [], ◌∷◌}
 use mathlib.Core.Bool.{Bool, true, false, ◌&&◌, false≢true, and_assoc, and-true}
 use lib.ListN.{length, drop, get_or, replicate, length-replicate, length-drop, drop_of_length-le}
@@ -10,7 +10,7 @@ use lib.Dec.{T, eqb}
 use borrow.Author.Tests.{eqb-true, ltb-true, ltb-false, lt-ltb, le-ltb}
 use Rattle.model.specs.Bytes.{Bytes, all, same}
 use Rattle.model.specs.Text.{Range, inside, tail, rows, row_of, utf8, utf8_from}
-use Rattle.model.proofs.Lists.{and-true as both_true}
+use Rattle.model.proofs.Lists.{and_true as both_true}
 use Rattle.model.proofs.Computed.{all_below, at_below}
 use Rattle.model.proofs.ByteStrings.{same_eq, drop_next}
 use Rattle.text.specs.Text.{text_of, ahead, ranges_of, meets, ascii}
@@ -105,13 +105,17 @@ text_end p i h = rw (drop_of_length-le p h)
 
 -- ASCII
 
+ascii_row : (b : ℕ) → b < 0x80 → [] ≡ row_of b rows
+unfolding rows row_of same
+ascii_row b k = stretch [] 0 0x7F tt b (omega arith) (omega arith)
+
 pub ascii_text : (p : Bytes) → all ascii p ≡ true → utf8 p ≡ true
-unfolding utf8 utf8_from all rows row_of same
+unfolding utf8 utf8_from all
 ascii_text [] h = refl
 ascii_text (b ∷ p) h =
     let t = both_true (ascii b) (all ascii p) h in
     let k : b < 0x80 = ltb-true b 0x80 t.0 in
-    rw (← stretch [] 0 0x7F tt b (omega arith) (omega arith)) (ascii_text p t.1)
+    subst (λ rs. utf8_from rs p ≡ true) (ascii_row b k) (ascii_text p t.1)
 
 max_ascii : (a b : ℕ) → ascii (max a b) ≡ (ascii a && ascii b)
 max_ascii a b = go (ascii a) (ascii b) refl refl

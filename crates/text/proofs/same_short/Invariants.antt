@@ -1,0 +1,13 @@
+-- `same_short`: what follows the place is equal, down to the front.
+use native.Mathlib.Omega.{arith}
+use mathlib.Core.Path.{◌≡◌, sym, ap, ◌∙◌}
+use Prim.Native.Nat.{◌+◌, ◌-◌, ◌≤◌}
+use lib.ListN.{length, drop, drop_of_length-le}
+use Rattle.text.proofs.Words.{drop_before, byte_differs, equal_same}
+use Rattle.text.proofs.same_short.Given as goal
+
+abbrev pub invariant-loop-i : goal.invariant-loop-i
+invariant-loop-i l = (length l.a ≡ length l.b) × (l.i ≤ length l.a) × (drop l.i l.a ≡ drop l.i l.b)
+
+abbrev pub decreases-loop-i : goal.decreases-loop-i
+decreases-loop-i l = l.i
