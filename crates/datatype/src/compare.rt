@@ -133,7 +133,7 @@ fn skip_child(s: &[u8], at: usize, kind: usize, levels: usize) -> usize
 }
 
 // Two types of at most so many levels: one code, equal parameters, and the children. A plain type has neither.
-#[cycle(compare_child_compare_children_compare_field_compare_in_order_compare_members_compare_row_compare_type_every_member_has_member)]
+#[cycle(comparing)]
 pub fn compare_type(s: &[u8], a: usize, t: &[u8], b: usize, levels: usize, how: Comparison) -> bool
     ensures { (l : ℕ) (x y : DataType l) → l ≤ levels → Whole l x → Whole l y → Stands s.now a (type_bytes l x) → Stands t.now b (type_bytes l y) → result ≡ compare_type how l x y }
 {
@@ -158,7 +158,7 @@ pub fn compare_type(s: &[u8], a: usize, t: &[u8], b: usize, levels: usize, how: 
 }
 
 // Two fields: the heads, then the types.
-#[cycle(compare_child_compare_children_compare_field_compare_in_order_compare_members_compare_row_compare_type_every_member_has_member)]
+#[cycle(comparing)]
 pub fn compare_field(s: &[u8], a: usize, t: &[u8], b: usize, levels: usize, how: Comparison) -> bool
     ensures { (l : ℕ) (f g : Field l) → l ≤ levels → Whole l f.data_type → Whole l g.data_type → Stands s.now a (field_bytes (type_bytes l) f) → Stands t.now b (field_bytes (type_bytes l) g) → result ≡ compare_field how l f g }
 {
@@ -171,7 +171,7 @@ pub fn compare_field(s: &[u8], a: usize, t: &[u8], b: usize, levels: usize, how:
 }
 
 // Two children of parents with this kind of children. Only what is written of them is compared.
-#[cycle(compare_child_compare_children_compare_field_compare_in_order_compare_members_compare_row_compare_type_every_member_has_member)]
+#[cycle(comparing)]
 fn compare_child(
     s: &[u8],
     a: usize,
@@ -204,7 +204,7 @@ fn compare_child(
 
 // So many children one behind the other, each with the one at its position. A loop: a thousand take no more stack than one. The last decides,
 // and the place behind it is not looked for: so structs of one child inside one another are gone over once.
-#[cycle(compare_child_compare_children_compare_field_compare_in_order_compare_members_compare_row_compare_type_every_member_has_member)]
+#[cycle(comparing)]
 pub fn compare_row(
     s: &[u8],
     a: usize,
@@ -235,7 +235,7 @@ pub fn compare_row(
 }
 
 // The children of two types of one code, by position.
-#[cycle(compare_child_compare_children_compare_field_compare_in_order_compare_members_compare_row_compare_type_every_member_has_member)]
+#[cycle(comparing)]
 fn compare_in_order(
     s: &[u8],
     a: usize,
@@ -262,7 +262,7 @@ fn compare_in_order(
 }
 
 // Whether one of so many union children agrees with the one at a place of the first sheet.
-#[cycle(compare_child_compare_children_compare_field_compare_in_order_compare_members_compare_row_compare_type_every_member_has_member)]
+#[cycle(comparing)]
 fn has_member(
     s: &[u8],
     a: usize,
@@ -287,7 +287,7 @@ fn has_member(
 }
 
 // Whether each of so many union children agrees with one of so many others.
-#[cycle(compare_child_compare_children_compare_field_compare_in_order_compare_members_compare_row_compare_type_every_member_has_member)]
+#[cycle(comparing)]
 fn every_member(
     s: &[u8],
     a: usize,
@@ -313,7 +313,7 @@ fn every_member(
 }
 
 // The children of two unions, by id.
-#[cycle(compare_child_compare_children_compare_field_compare_in_order_compare_members_compare_row_compare_type_every_member_has_member)]
+#[cycle(comparing)]
 fn compare_members(s: &[u8], a: usize, t: &[u8], b: usize, levels: usize, how: Comparison) -> bool
     ensures { (l : ℕ) (js ks : List (Field l)) → l ≤ levels → Every (Child l counted_with_ids) js → Every (Child l counted_with_ids) ks → Stands s.now a (children_bytes (type_bytes l) counted_with_ids js) → Stands t.now b (children_bytes (type_bytes l) counted_with_ids ks) → result ≡ compare_members how l js ks }
 {
@@ -327,7 +327,7 @@ fn compare_members(s: &[u8], a: usize, t: &[u8], b: usize, levels: usize, how: C
 }
 
 // The children of two types of this code.
-#[cycle(compare_child_compare_children_compare_field_compare_in_order_compare_members_compare_row_compare_type_every_member_has_member)]
+#[cycle(comparing)]
 fn compare_children(
     s: &[u8],
     a: usize,

@@ -275,7 +275,7 @@ fn count_entries(w: &[u8], at: usize, levels: usize) -> usize
 }
 
 // A field: the head of its entry and its type.
-#[cycle(put_entries_put_entry_put_row_put_type)]
+#[cycle(putting)]
 fn put_entry(s: &[u8], w: &[u8], at: usize, levels: usize, dst: &mut [u8], pos: usize) -> usize
     ensures { PutsEntry s.now w.now at levels dst.old pos dst.new result }
 {
@@ -293,7 +293,7 @@ fn put_entry(s: &[u8], w: &[u8], at: usize, levels: usize, dst: &mut [u8], pos: 
 }
 
 // A type: as it stands in the train, or its code and what was merged inside.
-#[cycle(put_entries_put_entry_put_row_put_type)]
+#[cycle(putting)]
 fn put_type(
     s: &[u8],
     w: &[u8],
@@ -325,7 +325,7 @@ fn put_type(
 }
 
 // The count of a row's entries, and their fields.
-#[cycle(put_entries_put_entry_put_row_put_type)]
+#[cycle(putting)]
 fn put_row(s: &[u8], w: &[u8], at: usize, levels: usize, dst: &mut [u8], pos: usize) -> usize
     ensures { PutsRow s.now w.now at levels dst.old pos dst.new result }
 {
@@ -334,7 +334,7 @@ fn put_row(s: &[u8], w: &[u8], at: usize, levels: usize, dst: &mut [u8], pos: us
 }
 
 // The fields of a row. What passes the longest answer is not gone over.
-#[cycle(put_entries_put_entry_put_row_put_type)]
+#[cycle(putting)]
 fn put_entries(s: &[u8], w: &[u8], at: usize, levels: usize, dst: &mut [u8], pos: usize) -> usize
     ensures { PutsEntries s.now w.now at levels dst.old pos dst.new result }
 {

@@ -90,7 +90,7 @@ fn orders_agree(s: &[u8], w: &[u8], at: usize, q: usize, parked: bool) -> bool
 }
 
 // A field into the entry at a place: `Field::try_merge`. "Checks in order: ordered flags, metadata, type."
-#[cycle(merge_field_merge_list_merge_rest_merge_same_code_merge_struct_merge_type_pour_pour_own_put)]
+#[cycle(merging)]
 pub fn merge_field(
     s: &[u8],
     w: &mut [u8],
@@ -113,7 +113,7 @@ pub fn merge_field(
 }
 
 // What is left when order flags and metadata are settled: nullability and the type.
-#[cycle(merge_field_merge_list_merge_rest_merge_same_code_merge_struct_merge_type_pour_pour_own_put)]
+#[cycle(merging)]
 fn merge_rest(
     s: &[u8],
     w: &mut [u8],
@@ -132,7 +132,7 @@ fn merge_rest(
 }
 
 // A type into the one whose entry stands at a place.
-#[cycle(merge_field_merge_list_merge_rest_merge_same_code_merge_struct_merge_type_pour_pour_own_put)]
+#[cycle(merging)]
 fn merge_type(
     s: &[u8],
     w: &mut [u8],
@@ -160,7 +160,7 @@ fn merge_type(
 }
 
 // Two types of one code, neither Null.
-#[cycle(merge_field_merge_list_merge_rest_merge_same_code_merge_struct_merge_type_pour_pour_own_put)]
+#[cycle(merging)]
 fn merge_same_code(
     s: &[u8],
     w: &mut [u8],
@@ -189,7 +189,7 @@ fn merge_same_code(
 }
 
 // Two structs: "Struct pours its own children, then the other's, through the merge by name, so equal names inside it fold."
-#[cycle(merge_field_merge_list_merge_rest_merge_same_code_merge_struct_merge_type_pour_pour_own_put)]
+#[cycle(merging)]
 fn merge_struct(
     s: &[u8],
     w: &mut [u8],
@@ -220,7 +220,7 @@ fn merge_struct(
 }
 
 // A raw struct is opened and its own children poured; an open one has them already.
-#[cycle(merge_field_merge_list_merge_rest_merge_same_code_merge_struct_merge_type_pour_pour_own_put)]
+#[cycle(merging)]
 fn pour_own(s: &[u8], w: &mut [u8], used: usize, at: usize, levels: usize, parked: bool) -> Merged
     ensures { (length w.new ≡ length w.old) × OpensStruct parked levels s.now w.old used at w.new result }
 {
@@ -244,7 +244,7 @@ fn pour_own(s: &[u8], w: &mut [u8], used: usize, at: usize, levels: usize, parke
 }
 
 // Two lists, or two large lists: the child with the other's; it keeps its own name.
-#[cycle(merge_field_merge_list_merge_rest_merge_same_code_merge_struct_merge_type_pour_pour_own_put)]
+#[cycle(merging)]
 fn merge_list(
     s: &[u8],
     w: &mut [u8],
@@ -262,7 +262,7 @@ fn merge_list(
 }
 
 // So many fields of the train into a row, by name: `SchemaBuilder::try_merge` for each. A loop: a thousand take no more stack than one.
-#[cycle(merge_field_merge_list_merge_rest_merge_same_code_merge_struct_merge_type_pour_pour_own_put)]
+#[cycle(merging)]
 pub fn pour(
     s: &[u8],
     w: &mut [u8],
@@ -294,7 +294,7 @@ pub fn pour(
 }
 
 // One field of the train into a row: into the entry of its name, behind which the next one is looked for first; or behind them all.
-#[cycle(merge_field_merge_list_merge_rest_merge_same_code_merge_struct_merge_type_pour_pour_own_put)]
+#[cycle(merging)]
 fn put(
     s: &[u8],
     w: &mut [u8],

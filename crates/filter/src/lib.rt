@@ -102,7 +102,7 @@ fn filter_leaf(
 }
 
 // `filter_field`: the field with what is left of its type, or the leaf that it is.
-#[cycle(filter_child_filter_children_filter_counted_filter_encoded_filter_field_filter_inner_filter_nested_filter_row_filter_type)]
+#[cycle(filtering)]
 fn filter_field(
     s: &[u8],
     at: usize,
@@ -128,7 +128,7 @@ fn filter_field(
 
 // `filter_field`, its matches on the type, of at most so many levels. "One Dictionary or RunEndEncoded is looked through, not two":
 // `through` says that none was yet.
-#[cycle(filter_child_filter_children_filter_counted_filter_encoded_filter_field_filter_inner_filter_nested_filter_row_filter_type)]
+#[cycle(filtering)]
 fn filter_type(
     s: &[u8],
     at: usize,
@@ -156,7 +156,7 @@ fn filter_type(
 }
 
 // A Dictionary or RunEndEncoded is what the type of its second child is. All others have no leaf below them.
-#[cycle(filter_child_filter_children_filter_counted_filter_encoded_filter_field_filter_inner_filter_nested_filter_row_filter_type)]
+#[cycle(filtering)]
 fn filter_encoded(
     s: &[u8],
     at: usize,
@@ -183,7 +183,7 @@ fn filter_encoded(
 }
 
 // The type that stands at the second place, and what stands before it from the first on, which is kept with it.
-#[cycle(filter_child_filter_children_filter_counted_filter_encoded_filter_field_filter_inner_filter_nested_filter_row_filter_type)]
+#[cycle(filtering)]
 fn filter_inner(
     s: &[u8],
     at: usize,
@@ -205,7 +205,7 @@ fn filter_inner(
 }
 
 // A type that holds fields: its code and parameters, and what is left of its children.
-#[cycle(filter_child_filter_children_filter_counted_filter_encoded_filter_field_filter_inner_filter_nested_filter_row_filter_type)]
+#[cycle(filtering)]
 fn filter_nested(
     s: &[u8],
     at: usize,
@@ -226,7 +226,7 @@ fn filter_nested(
 }
 
 // The children of such a type. One that is no Struct and no Union has one field.
-#[cycle(filter_child_filter_children_filter_counted_filter_encoded_filter_field_filter_inner_filter_nested_filter_row_filter_type)]
+#[cycle(filtering)]
 fn filter_children(
     s: &[u8],
     at: usize,
@@ -249,7 +249,7 @@ fn filter_children(
 }
 
 // A count, and as many children with so many bytes before each. How many are kept is known at the end, and written over the place held.
-#[cycle(filter_child_filter_children_filter_counted_filter_encoded_filter_field_filter_inner_filter_nested_filter_row_filter_type)]
+#[cycle(filtering)]
 fn filter_counted(
     s: &[u8],
     at: usize,
@@ -286,7 +286,7 @@ fn kept_one(before: usize, behind: usize) -> usize
 }
 
 // So many children, one behind the other, and how many of them are kept.
-#[cycle(filter_child_filter_children_filter_counted_filter_encoded_filter_field_filter_inner_filter_nested_filter_row_filter_type)]
+#[cycle(filtering)]
 fn filter_row(
     s: &[u8],
     at: usize,
@@ -322,7 +322,7 @@ fn filter_row(
 }
 
 // A child with so many bytes before it: a union's child has its id there, others nothing.
-#[cycle(filter_child_filter_children_filter_counted_filter_encoded_filter_field_filter_inner_filter_nested_filter_row_filter_type)]
+#[cycle(filtering)]
 fn filter_child(
     s: &[u8],
     at: usize,

@@ -189,7 +189,7 @@ fn expands(code: usize, max_level: u16, depth: usize) -> bool
 
 // A turn of the Rust's loop, for a field at a depth: a Struct that is expanded becomes the columns of its children, any other field is one
 // column. No field of a sheet that was read is deeper than a path is long.
-#[cycle(expand_field_expand_fields)]
+#[cycle(expanding)]
 fn expand_field(
     w: &mut [u8],
     from: Reach,
@@ -221,7 +221,7 @@ fn expand_field(
 }
 
 // So many fields, one behind the other. It stops once they are known to pass the longest answer.
-#[cycle(expand_field_expand_fields)]
+#[cycle(expanding)]
 fn expand_fields(
     w: &mut [u8],
     from: Reach,

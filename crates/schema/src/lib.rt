@@ -133,7 +133,7 @@ struct Reach {
 }
 
 // `Field::fields`: the place of the field itself, then those of the fields of its type: "parents first".
-#[cycle(flatten_children_flatten_field_flatten_fields_flatten_members_flatten_type)]
+#[cycle(flattening)]
 fn flatten_field(s: &[u8], at: usize, levels: usize, w: &mut [u8], pos: usize) -> Reach
     ensures { (l : ℕ) (f : Field l) → l ≤ levels → LaidOut l f.data_type → Flattens s.now at (field_bytes (type_bytes l) f) (field_fields (type_bytes l) (type_fields l) at f) w.old pos w.new result.at result.written }
 {
@@ -142,7 +142,7 @@ fn flatten_field(s: &[u8], at: usize, levels: usize, w: &mut [u8], pos: usize) -
 }
 
 // The fields of a type of at most so many levels, itself among them.
-#[cycle(flatten_children_flatten_field_flatten_fields_flatten_members_flatten_type)]
+#[cycle(flattening)]
 fn flatten_type(s: &[u8], at: usize, levels: usize, w: &mut [u8], pos: usize) -> Reach
     ensures { (l : ℕ) (t : DataType l) → l ≤ levels → LaidOut l t → Flattens s.now at (type_bytes l t) (type_fields l at t) w.old pos w.new result.at result.written }
 {
@@ -163,7 +163,7 @@ fn children_count(code: usize) -> usize
 }
 
 // `Field::_fields`, arm by arm: "run ends and dictionary keys skipped".
-#[cycle(flatten_children_flatten_field_flatten_fields_flatten_members_flatten_type)]
+#[cycle(flattening)]
 fn flatten_children(
     s: &[u8],
     at: usize,
@@ -191,7 +191,7 @@ fn flatten_children(
 }
 
 // So many fields, one behind the other.
-#[cycle(flatten_children_flatten_field_flatten_fields_flatten_members_flatten_type)]
+#[cycle(flattening)]
 fn flatten_fields(
     s: &[u8],
     at: usize,
@@ -215,7 +215,7 @@ fn flatten_fields(
 }
 
 // So many union children, each an id and a field.
-#[cycle(flatten_children_flatten_field_flatten_fields_flatten_members_flatten_type)]
+#[cycle(flattening)]
 fn flatten_members(
     s: &[u8],
     at: usize,

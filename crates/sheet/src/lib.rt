@@ -391,7 +391,7 @@ fn read_id(s: &[u8], lim: usize, used: &[u8; 128], at: usize) -> Item
 }
 
 // A field, with so many levels left for it and what it holds.
-#[cycle(read_children_read_dictionary_read_field_read_fields_read_members_read_shape_read_struct_read_type_read_union)]
+#[cycle(reading)]
 fn read_field(s: &[u8], lim: usize, at: usize, levels: usize) -> Step
     ensures { result ≡ step_of (read_field s.now lim levels (read_type s.now lim levels) 0 at) }
 {
@@ -413,7 +413,7 @@ fn read_field(s: &[u8], lim: usize, at: usize, levels: usize) -> Step
 }
 
 // A type, with so many levels left, itself among them; ordered where the field that holds it is.
-#[cycle(read_children_read_dictionary_read_field_read_fields_read_members_read_shape_read_struct_read_type_read_union)]
+#[cycle(reading)]
 fn read_type(s: &[u8], lim: usize, at: usize, ordered: bool, levels: usize) -> Step
     ensures { result ≡ step_of (read_type s.now lim levels ordered at) }
 {
@@ -434,7 +434,7 @@ fn read_type(s: &[u8], lim: usize, at: usize, ordered: bool, levels: usize) -> S
 }
 
 // What follows a code, with so many levels left for the children.
-#[cycle(read_children_read_dictionary_read_field_read_fields_read_members_read_shape_read_struct_read_type_read_union)]
+#[cycle(reading)]
 fn read_shape(s: &[u8], lim: usize, at: usize, code: usize, levels: usize) -> Step
     ensures { result ≡ step_of (read_shape s.now lim levels code at) }
 {
@@ -446,7 +446,7 @@ fn read_shape(s: &[u8], lim: usize, at: usize, code: usize, levels: usize) -> St
 }
 
 // The children of a type.
-#[cycle(read_children_read_dictionary_read_field_read_fields_read_members_read_shape_read_struct_read_type_read_union)]
+#[cycle(reading)]
 fn read_children(s: &[u8], lim: usize, at: usize, code: usize, levels: usize) -> Step
     ensures { result ≡ step_of (read_children s.now lim levels (read_type s.now lim levels) (layout code).children at) }
 {
@@ -462,7 +462,7 @@ fn read_children(s: &[u8], lim: usize, at: usize, code: usize, levels: usize) ->
 }
 
 // So many fields, one after the other.
-#[cycle(read_children_read_dictionary_read_field_read_fields_read_members_read_shape_read_struct_read_type_read_union)]
+#[cycle(reading)]
 fn read_fields(s: &[u8], lim: usize, at: usize, count: usize, levels: usize) -> Step
     ensures { result ≡ step_of (read_many count (λ seen. read_field s.now lim levels (read_type s.now lim levels) 0) [] at) }
 {
@@ -480,7 +480,7 @@ fn read_fields(s: &[u8], lim: usize, at: usize, count: usize, levels: usize) -> 
 }
 
 // A dictionary's key type, then its value type.
-#[cycle(read_children_read_dictionary_read_field_read_fields_read_members_read_shape_read_struct_read_type_read_union)]
+#[cycle(reading)]
 fn read_dictionary(s: &[u8], lim: usize, at: usize, levels: usize) -> Step
     ensures { result ≡ step_of (read_children s.now lim levels (read_type s.now lim levels) key_and_value at) }
 {
@@ -492,7 +492,7 @@ fn read_dictionary(s: &[u8], lim: usize, at: usize, levels: usize) -> Step
 }
 
 // A struct's count and its fields.
-#[cycle(read_children_read_dictionary_read_field_read_fields_read_members_read_shape_read_struct_read_type_read_union)]
+#[cycle(reading)]
 fn read_struct(s: &[u8], lim: usize, at: usize, levels: usize) -> Step
     ensures { result ≡ step_of (read_children s.now lim levels (read_type s.now lim levels) counted at) }
 {
@@ -504,7 +504,7 @@ fn read_struct(s: &[u8], lim: usize, at: usize, levels: usize) -> Step
 }
 
 // A union's count and its children.
-#[cycle(read_children_read_dictionary_read_field_read_fields_read_members_read_shape_read_struct_read_type_read_union)]
+#[cycle(reading)]
 fn read_union(s: &[u8], lim: usize, at: usize, levels: usize) -> Step
     ensures { result ≡ step_of (read_children s.now lim levels (read_type s.now lim levels) counted_with_ids at) }
 {
@@ -516,7 +516,7 @@ fn read_union(s: &[u8], lim: usize, at: usize, levels: usize) -> Step
 }
 
 // So many union children, each an id and a field.
-#[cycle(read_children_read_dictionary_read_field_read_fields_read_members_read_shape_read_struct_read_type_read_union)]
+#[cycle(reading)]
 fn read_members(s: &[u8], lim: usize, at: usize, count: usize, levels: usize) -> Step
     ensures { result ≡ step_of (read_many count (read_union_child s.now lim levels (read_type s.now lim levels)) [] at) }
 {

@@ -77,7 +77,7 @@ pub fn skip_head(w: &[u8], at: usize) -> usize
 }
 
 // An entry of at most so many levels.
-#[cycle(skip_entry_skip_row_skip_type)]
+#[cycle(skipping)]
 pub fn skip_entry(w: &[u8], at: usize, levels: usize) -> usize
     ensures { (l : ℕ) (s : Bytes) (k : ℕ) (y : Bytes) (f : Field l) → l ≤ levels → SpellField l s k y f → Skips w.now at y result }
 {
@@ -85,7 +85,7 @@ pub fn skip_entry(w: &[u8], at: usize, levels: usize) -> usize
 }
 
 // The type of an entry.
-#[cycle(skip_entry_skip_row_skip_type)]
+#[cycle(skipping)]
 pub fn skip_type(w: &[u8], at: usize, levels: usize) -> usize
     ensures { (l : ℕ) (s : Bytes) (first : DataType l) (k : ℕ) (y : Bytes) (t : DataType l) → l ≤ levels → SpellType l s first k y t → Skips w.now at y result }
 {
@@ -107,7 +107,7 @@ pub fn skip_type(w: &[u8], at: usize, levels: usize) -> usize
 }
 
 // A row of entries and its end.
-#[cycle(skip_entry_skip_row_skip_type)]
+#[cycle(skipping)]
 pub fn skip_row(w: &[u8], at: usize, levels: usize) -> usize
     ensures { (l : ℕ) (s : Bytes) (k : ℕ) (y : Bytes) (fs : List (Field l)) → l ≤ levels → SpellRow l s k y fs → Skips w.now at y result }
 {

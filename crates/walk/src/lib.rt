@@ -191,7 +191,7 @@ pub fn skip_params(s: &[u8], at: usize, code: usize) -> usize
 }
 
 // A field of at most so many levels. Most have a plain type, which is passed here without a call.
-#[cycle(skip_children_skip_field_skip_fields_skip_members_skip_type)]
+#[cycle(skipping)]
 pub fn skip_field(s: &[u8], at: usize, levels: usize) -> usize
     ensures { SkipsField s.now at levels result }
 {
@@ -203,7 +203,7 @@ pub fn skip_field(s: &[u8], at: usize, levels: usize) -> usize
 }
 
 // A type of at most so many levels, itself among them.
-#[cycle(skip_children_skip_field_skip_fields_skip_members_skip_type)]
+#[cycle(skipping)]
 pub fn skip_type(s: &[u8], at: usize, levels: usize) -> usize
     ensures { SkipsType s.now at levels result }
 {
@@ -220,7 +220,7 @@ pub fn skip_type(s: &[u8], at: usize, levels: usize) -> usize
 }
 
 // The children of a type.
-#[cycle(skip_children_skip_field_skip_fields_skip_members_skip_type)]
+#[cycle(skipping)]
 fn skip_children(s: &[u8], at: usize, code: usize, levels: usize) -> usize
     ensures { SkipsChildren s.now at (layout code).children levels result }
 {
@@ -239,7 +239,7 @@ fn skip_children(s: &[u8], at: usize, code: usize, levels: usize) -> usize
 }
 
 // So many fields, one behind the other.
-#[cycle(skip_children_skip_field_skip_fields_skip_members_skip_type)]
+#[cycle(skipping)]
 pub fn skip_fields(s: &[u8], at: usize, count: usize, levels: usize) -> usize
     ensures { SkipsFields s.now at count levels result }
 {
@@ -253,7 +253,7 @@ pub fn skip_fields(s: &[u8], at: usize, count: usize, levels: usize) -> usize
 }
 
 // So many union children, each an id and a field.
-#[cycle(skip_children_skip_field_skip_fields_skip_members_skip_type)]
+#[cycle(skipping)]
 pub fn skip_members(s: &[u8], at: usize, count: usize, levels: usize) -> usize
     ensures { SkipsMembers s.now at count levels result }
 {

@@ -39,3 +39,7 @@ returns-then-is_ascii c = ap text_of (sym (ascii_text _ (sym c.is_ascii.ensures 
 pub returns : goal.returns
 unfolding utf8
 returns c = ap text_of (sym (text_end _ _ c.loop-i-test.false) ∙ c.loop-i.invariant)
+
+pub loop-i-init : goal.loop-i-init
+unfolding utf8
+loop-i-init c = refl

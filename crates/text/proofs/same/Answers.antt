@@ -18,7 +18,7 @@ loop-i-init c =
     let s = c.args in
     let e = sym c.word.ensures ∙ c.if-word.false ∙ c.word-2.ensures in (
       c.if-a-b.false,
-      word_last s.a.now s.b.now c.if-a-b.false (length s.a.now - 8) (omega arith) (λ k. (c.shared_slice_known-1.given k).fits) (λ k. (c.shared_slice_known-2-1.given k).fits) (omega arith) e,
+      word_last s.a.now s.b.now c.if-a-b.false (length s.a.now - 8) (omega arith) (λ k. (c.type_inv.a k).fits) (λ k. (c.type_inv.b k).fits) (omega arith) e,
       refl,
     )
 
@@ -34,7 +34,7 @@ loop-i-preserved c =
     let e = sym c.word-in-loop-i.ensures ∙ c.if-word-2.false ∙ c.word-in-loop-i-2.ensures in (
       l.invariant.0,
       l.invariant.1,
-      word_next s.a.now s.b.now l.invariant.0 l.i (omega arith) (λ k. (c.shared_slice_known-1.given k).fits) (λ k. (c.shared_slice_known-2-1.given k).fits) e ∙ l.invariant.2,
+      word_next s.a.now s.b.now l.invariant.0 l.i (omega arith) (λ k. (c.type_inv.a k).fits) (λ k. (c.type_inv.b k).fits) e ∙ l.invariant.2,
     )
 
 pub returns : goal.returns
