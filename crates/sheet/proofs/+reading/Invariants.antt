@@ -1,0 +1,52 @@
+use Rattle.sheet.proofs.Ways.{ways, item_then, judge_lt_then, judge_le_then, judge_true, judge_false}
+use Rattle.sheet.proofs.TreeWays.{field_way, type_way, children_way, no_children, one_child, two_children, last_children, union_way, dictionary_way, many_done, many_stop, many_again}
+use Rattle.sheet.proofs.Members.{members_begin, members_done, members_id_stop, members_field_stop, members_again, id_small}
+use native.Mathlib.Omega.{arith}
+use mathlib.Core.Path.{◌≡◌, refl}
+use mathlib.Core.List.{[]}
+use Prim.Native.Nat.{ℕ, ◌<◌, ◌+◌, ◌*◌}
+use Rattle.model.specs.Bytes.{bit}
+use Rattle.model.specs.Read.{read_many, read_field, read_union_child, read_type, read_children, read_list}
+use Rattle.sheet.specs.Answers.{step_of}
+use Rattle.layout.specs.Kinds.{children_by}
+use Rattle.sheet.specs.Shapes.{read_shape, read_members, no_ids}
+use Rattle.sheet.proofs.+reading.Given as goal
+
+abbrev pub decreases-read_children : goal.decreases-read_children
+decreases-read_children l = 8 * l.levels + 4
+
+abbrev pub decreases-read_dictionary : goal.decreases-read_dictionary
+decreases-read_dictionary l = 8 * l.levels + 1
+
+abbrev pub decreases-read_field : goal.decreases-read_field
+decreases-read_field l = 8 * l.levels + 1
+
+abbrev pub decreases-read_fields : goal.decreases-read_fields
+decreases-read_fields l = 8 * l.levels + 2
+
+abbrev pub decreases-read_members : goal.decreases-read_members
+decreases-read_members l = 8 * l.levels + 2
+
+abbrev pub decreases-read_shape : goal.decreases-read_shape
+decreases-read_shape l = 8 * l.levels + 5
+
+abbrev pub decreases-read_struct : goal.decreases-read_struct
+decreases-read_struct l = 8 * l.levels + 3
+
+abbrev pub decreases-read_type : goal.decreases-read_type
+decreases-read_type l = 8 * l.levels + 0
+
+abbrev pub decreases-read_union : goal.decreases-read_union
+decreases-read_union l = 8 * l.levels + 3
+
+abbrev pub invariant-read_fields-loop-left : goal.invariant-read_fields-loop-left
+invariant-read_fields-loop-left l = step_of (read_many l.left (λ seen. read_field l.s l.lim l.levels (read_type l.s l.lim l.levels) 0) [] l.place) ≡ step_of (read_many l.count (λ seen. read_field l.s l.lim l.levels (read_type l.s l.lim l.levels) 0) [] l.at)
+
+abbrev pub decreases-read_fields-loop-left : goal.decreases-read_fields-loop-left
+decreases-read_fields-loop-left l = l.left
+
+abbrev pub invariant-read_members-loop-left : goal.invariant-read_members-loop-left
+invariant-read_members-loop-left l = step_of (read_members l.s l.lim l.levels l.used l.left l.place) ≡ step_of (read_many l.count (read_union_child l.s l.lim l.levels (read_type l.s l.lim l.levels)) [] l.at)
+
+abbrev pub decreases-read_members-loop-left : goal.decreases-read_members-loop-left
+decreases-read_members-loop-left l = l.left
