@@ -1,9 +1,8 @@
 -- `buffer::clear` meets its contract. Of the i bytes passed each is 0, and the rest is as it was.
 use mathlib.Core.Path.{◌≡◌, refl, ◌∙◌}
-use mathlib.Core.List.{◌++◌, append-nil}
-use Prim.Native.Nat.{◌-◌, ◌≤◌}
+use mathlib.Core.List.{append-nil}
 use native.Mathlib.Omega.{arith}
-use lib.ListN.{length, drop, replicate, length-set, drop_of_length-le}
+use lib.ListN.{length, length-set, drop_of_length-le}
 use borrow.Author.Fill.{fill_more}
 use Rattle.model.specs.Call.{zeros}
 use Rattle.buffer.proofs.clear.Goals as goal

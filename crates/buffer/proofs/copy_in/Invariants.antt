@@ -1,11 +1,8 @@
 -- `buffer::copy_in` meets its contract. The first i bytes of src are written.
-use mathlib.Core.Path.{◌≡◌, refl, sym, ◌∙◌}
+use mathlib.Core.Path.{◌≡◌}
 use Prim.Native.Nat.{◌-◌, ◌≤◌}
-use native.Mathlib.Omega.{arith}
-use lib.ListN.{length, take, length-set}
-use lib.Seq.{take_all}
+use lib.ListN.{length, take}
 use Rattle.buffer.specs.Buffer.{pasted}
-use Rattle.buffer.proofs.Pasted.{pasted_nil, copy_turn}
 use Rattle.buffer.proofs.copy_in.Given as goal
 
 abbrev pub invariant-loop-i : goal.invariant-loop-i

@@ -1,6 +1,6 @@
 -- `params_kind`: each arm is a stretch of codes of one kind; the arms of a single code come first.
 use native.Mathlib.Omega.{arith}
-use Rattle.layout.proofs.Tables.{params, params_within, params_past, beyond, zero_le, le_of_lt}
+use Rattle.layout.proofs.Tables.{params, params_within, params_past}
 use Rattle.layout.proofs.params_kind.Goals as goal
 
 pub returns-in-13 : goal.returns-in-13

@@ -2,14 +2,11 @@ use Rattle.sheet.proofs.Ways.{ways, item_then, judge_lt_then, judge_le_then, jud
 use Rattle.sheet.proofs.TreeWays.{field_way, type_way, children_way, no_children, one_child, two_children, last_children, union_way, dictionary_way, many_done, many_stop, many_again}
 use Rattle.sheet.proofs.Members.{members_begin, members_done, members_id_stop, members_field_stop, members_again, id_small}
 use native.Mathlib.Omega.{arith}
-use mathlib.Core.Path.{◌≡◌, refl}
-use mathlib.Core.List.{[]}
-use Prim.Native.Nat.{ℕ, ◌<◌, ◌+◌, ◌*◌}
+use mathlib.Core.Path.{refl}
 use Rattle.model.specs.Bytes.{bit}
-use Rattle.model.specs.Read.{read_many, read_field, read_union_child, read_type, read_children, read_list}
-use Rattle.sheet.specs.Answers.{step_of}
+use Rattle.model.specs.Read.{read_children, read_list}
 use Rattle.layout.specs.Kinds.{children_by}
-use Rattle.sheet.specs.Shapes.{read_shape, read_members, no_ids}
+use Rattle.sheet.specs.Shapes.{read_shape, no_ids}
 use borrow.Author.Rules.{rules}
 use Rattle.sheet.proofs.+reading.Goals as goal
 

@@ -1,15 +1,9 @@
-use Rattle.sheet.proofs.Ways.{ways, item_then, judge_lt_then, judge_le_then, judge_true, judge_false}
-use Rattle.sheet.proofs.TreeWays.{field_way, type_way, children_way, no_children, one_child, two_children, last_children, union_way, dictionary_way, many_done, many_stop, many_again}
-use Rattle.sheet.proofs.Members.{members_begin, members_done, members_id_stop, members_field_stop, members_again, id_small}
-use native.Mathlib.Omega.{arith}
-use mathlib.Core.Path.{◌≡◌, refl}
+use mathlib.Core.Path.{◌≡◌}
 use mathlib.Core.List.{[]}
-use Prim.Native.Nat.{ℕ, ◌<◌, ◌+◌, ◌*◌}
-use Rattle.model.specs.Bytes.{bit}
-use Rattle.model.specs.Read.{read_many, read_field, read_union_child, read_type, read_children, read_list}
+use Prim.Native.Nat.{◌+◌, ◌*◌}
+use Rattle.model.specs.Read.{read_many, read_field, read_union_child, read_type}
 use Rattle.sheet.specs.Answers.{step_of}
-use Rattle.layout.specs.Kinds.{children_by}
-use Rattle.sheet.specs.Shapes.{read_shape, read_members, no_ids}
+use Rattle.sheet.specs.Shapes.{read_members}
 use Rattle.sheet.proofs.+reading.Given as goal
 
 abbrev pub decreases-read_children : goal.decreases-read_children

@@ -1,11 +1,4 @@
-use Prim.Native.Nat.{◌-◌, ◌≤◌}
-use mathlib.Core.Path.{◌≡◌}
-use mathlib.Core.List.{[]}
-use lib.ListN.{length}
 use native.Mathlib.Omega.{arith}
-use Rattle.model.specs.Read.{read_many, read_pair}
-use Rattle.sheet.specs.Answers.{step_of}
-use Rattle.sheet.specs.Keys.{part, read_pairs}
 use Rattle.sheet.proofs.Pairs.{key_got, pairs_begin, pairs_done, pairs_key_stop, pairs_value_stop, pairs_again}
 use Rattle.sheet.proofs.read_pairs.Goals as goal
 

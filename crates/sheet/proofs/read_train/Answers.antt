@@ -1,7 +1,6 @@
-use mathlib.Core.Path.{◌≡◌, refl}
+use mathlib.Core.Path.{refl}
 use native.Mathlib.Omega.{arith}
-use Rattle.model.specs.Read.{read_sheets, read_train}
-use Rattle.sheet.specs.Answers.{step_of}
+use Rattle.model.specs.Read.{read_train}
 use Rattle.sheet.proofs.TreeWays.{from_cursor, train_done, train_full, train_stop, train_again}
 use Rattle.sheet.proofs.read_train.Goals as goal
 

@@ -1,8 +1,6 @@
-use mathlib.Core.Path.{◌≡◌, refl}
-use native.Mathlib.Omega.{arith}
+use mathlib.Core.Path.{◌≡◌}
 use Rattle.model.specs.Read.{read_sheets, read_train}
 use Rattle.sheet.specs.Answers.{step_of}
-use Rattle.sheet.proofs.TreeWays.{from_cursor, train_done, train_full, train_stop, train_again}
 use Rattle.sheet.proofs.read_train.Given as goal
 
 -- what is left reads as the whole

@@ -1,11 +1,7 @@
 -- `check`: what follows is text just if the whole is.
-use Prim.Native.Nat.{◌-◌}
 use native.Mathlib.Omega.{arith}
-use mathlib.Core.Path.{◌≡◌, refl, sym, ap, ◌∙◌}
-use mathlib.Core.List.{[]}
-use lib.ListN.{length, drop}
-use borrow.Author.Tests.{not-true, not-false}
-use Rattle.model.specs.Text.{utf8, utf8_from}
+use mathlib.Core.Path.{refl, sym, ap, ◌∙◌}
+use Rattle.model.specs.Text.{utf8}
 use Rattle.text.specs.Text.{text_of}
 use Rattle.text.proofs.Utf8.{text_next, text_inside, text_end, ascii_text}
 use Rattle.text.proofs.check.Goals as goal

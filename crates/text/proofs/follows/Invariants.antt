@@ -1,10 +1,7 @@
 -- `follows`: what is left stands from here on just if the whole stands at its place.
-use native.Mathlib.Omega.{arith}
-use mathlib.Core.Path.{◌≡◌, refl, sym, ◌∙◌}
+use mathlib.Core.Path.{◌≡◌}
 use lib.ListN.{drop}
-use borrow.Author.Tests.{not-true, not-false}
 use Rattle.text.specs.Text.{ahead, meets}
-use Rattle.text.proofs.Utf8.{meets_next, meets_short, meets_end}
 use Rattle.text.proofs.follows.Given as goal
 
 abbrev pub invariant-loop-left : goal.invariant-loop-left

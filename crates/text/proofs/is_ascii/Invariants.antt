@@ -1,12 +1,10 @@
 -- `is_ascii`: the largest byte so far, and what follows, say what the whole says.
 use Prim.Native.Nat.{◌-◌}
-use native.Mathlib.Omega.{arith}
-use mathlib.Core.Path.{◌≡◌, refl, sym, ◌∙◌}
+use mathlib.Core.Path.{◌≡◌}
 use mathlib.Core.Bool.{◌&&◌}
 use lib.ListN.{length, drop}
 use Rattle.model.specs.Bytes.{all}
 use Rattle.text.specs.Text.{ascii}
-use Rattle.text.proofs.Utf8.{ascii_next, ascii_end}
 use Rattle.text.proofs.is_ascii.Given as goal
 
 abbrev pub invariant-loop-i : goal.invariant-loop-i

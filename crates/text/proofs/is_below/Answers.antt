@@ -1,10 +1,7 @@
 -- `is_below`: what follows is below just if the whole is.
-use Prim.Native.Nat.{◌-◌}
 use native.Mathlib.Omega.{arith}
-use mathlib.Core.Path.{◌≡◌, refl, sym, ◌∙◌}
-use lib.ListN.{length, drop}
+use mathlib.Core.Path.{sym, ◌∙◌}
 use borrow.Author.Tests.{eq-eqb, ne_eqb}
-use Rattle.model.specs.Bytes.{below}
 use Rattle.model.proofs.ByteStrings.{below_next, below_prefix, below_end}
 use Rattle.text.proofs.is_below.Goals as goal
 

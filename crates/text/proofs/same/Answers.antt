@@ -1,9 +1,8 @@
 -- `same`: what follows is equal just if the whole is; the last eight bytes are.
 use Prim.Native.Nat.{◌-◌}
 use native.Mathlib.Omega.{arith}
-use mathlib.Core.Path.{◌≡◌, refl, sym, ap, ◌∙◌}
-use lib.ListN.{length, drop}
-use Rattle.model.specs.Bytes.{same_bytes}
+use mathlib.Core.Path.{refl, sym, ap, ◌∙◌}
+use lib.ListN.{length}
 use Rattle.model.proofs.ByteStrings.{differ_same_bytes}
 use Rattle.text.proofs.Words.{word_next, word_last, word_differs, word_end}
 use Rattle.text.proofs.same.Goals as goal

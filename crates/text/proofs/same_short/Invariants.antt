@@ -1,9 +1,7 @@
 -- `same_short`: what follows the place is equal, down to the front.
-use native.Mathlib.Omega.{arith}
-use mathlib.Core.Path.{◌≡◌, sym, ap, ◌∙◌}
-use Prim.Native.Nat.{◌+◌, ◌-◌, ◌≤◌}
-use lib.ListN.{length, drop, drop_of_length-le}
-use Rattle.text.proofs.Words.{drop_before, byte_differs, equal_same}
+use mathlib.Core.Path.{◌≡◌}
+use Prim.Native.Nat.{◌≤◌}
+use lib.ListN.{length, drop}
 use Rattle.text.proofs.same_short.Given as goal
 
 abbrev pub invariant-loop-i : goal.invariant-loop-i

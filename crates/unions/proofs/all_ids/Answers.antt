@@ -1,8 +1,8 @@
 -- `all_ids`: the ids of the i positions passed are written, and the next id is counted along.
-use Prim.Native.Nat.{suc, ◌-◌, ◌≤◌}
+use Prim.Native.Nat.{suc}
 use native.Mathlib.Omega.{arith}
 use mathlib.Core.Path.{◌≡◌, refl, sym, ap, ◌∙◌}
-use lib.ListN.{length, take, length-set}
+use lib.ListN.{length-set}
 use lib.Seq.{take_all}
 use Rattle.model.specs.Numbers.{max_type_id}
 use Rattle.model.specs.Unions.{ids_from}

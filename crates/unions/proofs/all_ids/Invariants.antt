@@ -1,12 +1,9 @@
 -- `all_ids`: the ids of the i positions passed are written, and the next id is counted along.
 use Prim.Native.Nat.{suc, ◌-◌, ◌≤◌}
-use native.Mathlib.Omega.{arith}
-use mathlib.Core.Path.{◌≡◌, refl, sym, ap, ◌∙◌}
-use lib.ListN.{length, take, length-set}
-use lib.Seq.{take_all}
+use mathlib.Core.Path.{◌≡◌}
+use lib.ListN.{length, take}
 use Rattle.model.specs.Numbers.{max_type_id}
 use Rattle.model.specs.Unions.{ids_from}
-use Rattle.unions.proofs.Ends.{ids_turn}
 use Rattle.unions.proofs.all_ids.Given as goal
 
 abbrev pub invariant-loop-i : goal.invariant-loop-i

@@ -1,8 +1,5 @@
 -- `check_ids`: what is left of the ids and the fields is answered as the whole.
-use Prim.Native.Nat.{◌-◌}
-use native.Mathlib.Omega.{arith}
-use lib.ListN.{length}
-use Rattle.unions.proofs.Walk.{Walk, walk_begin, walk_more_ids, walk_stop, walk_next, walk_more_fields, walk_end}
+use Rattle.unions.proofs.Walk.{walk_begin, walk_more_ids, walk_stop, walk_next, walk_more_fields, walk_end}
 use Rattle.unions.proofs.check_ids.Goals as goal
 
 pub loop-i-init : goal.loop-i-init

@@ -1,12 +1,7 @@
 -- `find_type_id`: no id passed is equal.
-use Prim.Native.Nat.{◌-◌}
 use native.Mathlib.Omega.{arith}
-use mathlib.Core.Path.{◌≡◌, sym, ap}
-use mathlib.Core.Bool.{false}
-use lib.ListN.{length, take}
-use lib.Dec.{eqb}
+use mathlib.Core.Path.{sym, ap}
 use borrow.Author.Tests.{eq-eqb, ne_eqb}
-use Rattle.model.specs.Bytes.{Every}
 use Rattle.model.proofs.Search.{every_take_next, position_first, position_none}
 use Rattle.unions.specs.Answers.{found_of}
 use Rattle.unions.proofs.find_type_id.Goals as goal
