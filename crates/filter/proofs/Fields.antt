@@ -13,7 +13,7 @@ use Rattle.model.specs.Numbers.{max_sheet_bytes}
 use Rattle.model.specs.Bytes.{Bytes, choose}
 use Rattle.model.specs.Tree.{Head, FieldOver, DataType, Field}
 use Rattle.model.specs.Sheet.{front_bytes, each, part, head_bytes, field_bytes, type_bytes}
-use Rattle.model.specs.Filter.{Filtered, leaf, nested, inside, filter_leaf, filter_to, filter_field, filter_type, field_leaf_count}
+use Rattle.model.specs.Filter.{Filtered, leaf, nested, filter_leaf, filter_to, filter_field, filter_type, field_leaf_count}
 use Rattle.model.proofs.Gives.{choose_true, choose_false}
 use Rattle.walk.specs.Stands.{Stands, Skips, SkipsType}
 use Rattle.walk.proofs.Standing.{skip_ahead, skip_join}

@@ -1,0 +1,8 @@
+-- `contains`: the call with this comparison.
+use Rattle.model.specs.Call.{contains_answer}
+use Rattle.datatype.specs.Comparisons.{compare_schema, compare_call}
+use Rattle.datatype.proofs.contains.Goals as goal
+
+pub returns : goal.returns
+unfolding compare_call compare_schema contains_answer
+returns c = c.answer_comparison.ensures
