@@ -1,5 +1,5 @@
 -- The entry of a field that nothing was merged into yet.
-use Prim.Native.Nat.{ℕ, zero, suc, ◌+◌, ◌*◌, ◌/◌, ◌%◌, ◌<◌}
+use Prim.Native.Nat.{ℕ, zero, suc, ◌*◌, ◌/◌, ◌%◌, ◌<◌}
 use native.Mathlib.Omega.{arith}
 use mathlib.Core.Path.{◌≡◌, refl, ap, subst, ◌∙◌}
 use mathlib.Core.List.{[], ◌∷◌, ◌++◌}
@@ -9,7 +9,7 @@ use lib.Dec.{eqb}
 use borrow.Author.Tests.{ne_eqb}
 use Rattle.model.specs.Bytes.{Bytes, flag}
 use Rattle.model.specs.Tree.{Head, Field}
-use Rattle.model.specs.Sheet.{front_bytes, dict_id_bytes, stands, part, with_count, pair_bytes, text_bytes, head_bytes, field_bytes, type_bytes}
+use Rattle.model.specs.Sheet.{front_bytes, dict_id_bytes, part, with_count, pair_bytes, text_bytes, head_bytes, field_bytes, type_bytes}
 use Rattle.walk.specs.Stands.{Stands, Skips}
 use Rattle.model.proofs.MapBits as map
 use Rattle.model.proofs.MapBits.{is_one}

@@ -1,0 +1,40 @@
+-- Entries, types and rows. The levels left fall from a type to what it holds, and each function calls on one that stands before it at equal levels.
+use native.Mathlib.Omega.{arith}
+use Rattle.table.proofs.Entries.{entry_skips, no_level, types_raw, types_struct, types_list, types_union, entries_begin, entries_again, entries_done, entries_stuck, entries_none}
+use Rattle.table.proofs.+skipping.Goals as goal
+
+pub skip_entry-returns : goal.skip_entry-returns
+skip_entry-returns t c = λ l s k y f h e. entry_skips (c.skip_head.ensures l s k y f) (λ o j v t p. c.skip_type.ensures l s o j v t h p) e
+
+pub skip_row-loop-place-init : goal.skip_row-loop-place-init
+skip_row-loop-place-init t c = entries_begin _ _
+
+pub skip_row-returns-then-byte-eq-NO_ENTRY : goal.skip_row-returns-then-byte-eq-NO_ENTRY
+skip_row-returns-then-byte-eq-NO_ENTRY t c = entries_done _ c.loop-place.invariant c.byte.ensures.0 c.if-byte-eq-NO_ENTRY.true c.ahead.ensures
+
+pub skip_row-returns-then-next-place : goal.skip_row-returns-then-next-place
+skip_row-returns-then-next-place t c = entries_stuck _ c.loop-place.invariant c.byte.ensures.0 c.if-byte-eq-NO_ENTRY.false c.skip_entry-next.ensures c.if-next-place.true
+
+pub skip_row-loop-place-smaller : goal.skip_row-loop-place-smaller
+skip_row-loop-place-smaller t c = omega (arith, c.loop-place-test.true, c.if-next-place.false)
+
+pub skip_row-loop-place-preserved : goal.skip_row-loop-place-preserved
+skip_row-loop-place-preserved t c = entries_again _ c.loop-place.invariant c.byte.ensures.0 c.if-byte-eq-NO_ENTRY.false c.skip_entry-next.ensures
+
+pub skip_row-returns : goal.skip_row-returns
+skip_row-returns t c = entries_none _ c.loop-place.invariant c.loop-place-test.false
+
+pub skip_type-returns-then-levels-le0 : goal.skip_type-returns-then-levels-le0
+skip_type-returns-then-levels-le0 t c = no_level _ _ c.if-levels-le0.true
+
+pub skip_type-returns-then-kind-eq0 : goal.skip_type-returns-then-kind-eq0
+skip_type-returns-then-kind-eq0 t c = types_raw _ c.byte-kind.ensures.0 c.ahead-inner.ensures c.if-kind-eq0.true
+
+pub skip_type-returns-then-kind-eq1 : goal.skip_type-returns-then-kind-eq1
+skip_type-returns-then-kind-eq1 t c = types_struct _ c.byte-kind.ensures.0 c.ahead-inner.ensures c.if-kind-eq1.true c.skip_row.ensures
+
+pub skip_type-returns-then-kind-eq2 : goal.skip_type-returns-then-kind-eq2
+skip_type-returns-then-kind-eq2 t c = types_list _ c.byte-kind.ensures.0 c.ahead-inner.ensures c.if-kind-eq2.true c.skip_entry.ensures
+
+pub skip_type-returns : goal.skip_type-returns
+skip_type-returns t c = types_union _ c.byte-kind.ensures.0 c.ahead-inner.ensures c.if-kind-eq0.false c.if-kind-eq1.false c.if-kind-eq2.false c.skip_places.ensures

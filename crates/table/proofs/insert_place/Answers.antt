@@ -1,0 +1,7 @@
+-- `insert_place`: the three bytes of a place.
+use Rattle.table.specs.Table.{u24}
+use Rattle.table.proofs.insert_place.Goals as goal
+
+pub returns : goal.returns
+unfolding u24
+returns c = let k = c.insert.ensures in record { same_length = k.0; inserts = k.1 }
