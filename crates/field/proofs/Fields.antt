@@ -8,7 +8,7 @@ use lib.ListN.{length, length-append}
 use Rattle.model.specs.Numbers.{ordered_clash, field_metadata_clash}
 use Rattle.model.specs.Bytes.{Bytes, Metadata}
 use Rattle.model.specs.Tree.{Head, DataType, Field, with_data_type}
-use Rattle.model.specs.Sheet.{front_bytes, dict_id_bytes, stands, part, with_count, pair_bytes, text_bytes, head_bytes, field_bytes, type_bytes}
+use Rattle.model.specs.Sheet.{front_bytes, dict_id_bytes, part, with_count, pair_bytes, text_bytes, head_bytes, field_bytes, type_bytes}
 use Rattle.model.specs.Merge as model
 use Rattle.model.specs.Merge.{◌>>=◌, done, clash, need, merge_metadata, orders_agree, merge_field, merge_type, is_null}
 use Rattle.model.proofs.Modes.{merged_order_lem}

@@ -8,7 +8,6 @@ use mathlib.Core.Logic.{◌⊎◌, inl, inr}
 use lib.ListN.{length, get_or, length-append}
 use Rattle.model.specs.Bytes.{Bytes, Every, u16}
 use Rattle.model.specs.Tree.{DataType, Field, with_children, List', LargeList, Struct, layout, table}
-use Rattle.model.specs.Tree.Children.{counted}
 use Rattle.model.specs.Sheet.{each, with_count, field_bytes, children_bytes, type_bytes}
 use Rattle.model.specs.WellFormed.{WellFormedParams, WellFormedField, WellFormedChildren, WellFormedType}
 use Rattle.model.specs.Merge as model

@@ -12,7 +12,6 @@ use Rattle.model.specs.Numbers.{type_clash}
 use Rattle.model.specs.Bytes.{Bytes, same, same_bytes}
 use Rattle.model.specs.Tree.{DataType, with_children, Null, List', LargeList, Struct, Union}
 use Rattle.model.specs.Sheet.{type_bytes}
-use Rattle.model.specs.Merge as model
 use Rattle.model.specs.Merge.{◌>>=◌, done, clash, need, merge_each, merge_same_code, merge_type, is_null, pour}
 use Rattle.model.specs.Equal.{same_child, same_type}
 use Rattle.model.proofs.Gives.{choose_true, choose_false}

@@ -12,7 +12,7 @@ use Rattle.model.specs.Sheet.{each, sheet_bytes}
 use Rattle.model.specs.WellFormed.{Fits}
 use Rattle.model.specs.Read as read
 use Rattle.model.specs.Read.{got, bad, next}
-use Rattle.model.specs.Merge.{Merged, done, clash, empty, merge_schema, placed, merge_from, try_merge}
+use Rattle.model.specs.Merge.{done, clash, empty, merge_schema, placed, merge_from, try_merge}
 use Rattle.model.proofs.Lists.{empty_list}
 use Rattle.model.proofs.WellFormed.{columns_laid_out}
 use Rattle.walk.specs.Stands.{Stands, SkipsSheet}

@@ -1,0 +1,85 @@
+-- A field, its type, and what the type holds. The levels left fall from a type to what it holds, and each function calls on one that stands before it at equal levels.
+use native.Mathlib.Omega.{arith}
+use mathlib.Core.Path.{refl, ◌∙◌}
+use Rattle.field.proofs.Fields.{rest_merged, field_ordered, field_stopped, field_merged}
+use Rattle.field.proofs.Types.{type_taken, type_kept, type_clash_lem, type_same, no_level, same_struct, same_union, same_list, same_other}
+use Rattle.field.proofs.Lists.{list_merged}
+use Rattle.field.proofs.Structs.{struct_open, struct_poured, struct_stopped, struct_merged}
+use Rattle.field.proofs.Rows.{put_found, put_absent}
+use Rattle.field.proofs.Pouring.{pouring_begin, pouring_again, pouring_stop, pouring_done}
+use Rattle.field.proofs.+merging.Goals as goal
+
+pub merge_field-returns-then-not-orders_agree : goal.merge_field-returns-then-not-orders_agree
+merge_field-returns-then-not-orders_agree t c = (refl, field_ordered _ c.orders_agree.ensures c.if-not-orders_agree.true)
+
+pub merge_field-returns-in_default : goal.merge_field-returns-in_default
+merge_field-returns-in_default t c = let m = c.merge_metadata-got.ensures in (m.same_length, field_stopped _ c.orders_agree.ensures c.if-not-orders_agree.false m c.in_default.is)
+
+pub merge_field-returns : goal.merge_field-returns
+merge_field-returns t c = let m = c.merge_metadata-got.ensures in let r = c.merge_rest.ensures in (r.0 ∙ m.same_length, field_merged _ c.orders_agree.ensures c.if-not-orders_agree.false m c.in-Used.is r.1)
+
+pub merge_list-returns : goal.merge_list-returns
+merge_list-returns t c = let o = c.open_list-opened.ensures in let m = c.merge_field.ensures in (m.0 ∙ o.0, list_merged _ c.ahead-inner.ensures o.0 o.1 c.ahead.ensures m.1)
+
+pub merge_rest-returns : goal.merge_rest-returns
+merge_rest-returns t c = let f = c.set_flags.ensures in let t = c.merge_type.ensures in (t.0 ∙ f.0, rest_merged _ c.skip_head-b.ensures c.skip_head-t.ensures f.0 f.1 t.1)
+
+pub merge_same_code-returns-then-levels-le0 : goal.merge_same_code-returns-then-levels-le0
+merge_same_code-returns-then-levels-le0 t c = (refl, no_level _ c.if-levels-le0.true)
+
+pub merge_same_code-returns-then-code-eq-STRUCT : goal.merge_same_code-returns-then-code-eq-STRUCT
+merge_same_code-returns-then-code-eq-STRUCT t c = let m = c.merge_struct.ensures in (m.0, same_struct _ c.if-code-eq-STRUCT.true m.1)
+
+pub merge_same_code-returns-then-code-eq-UNION : goal.merge_same_code-returns-then-code-eq-UNION
+merge_same_code-returns-then-code-eq-UNION t c = let m = c.merge_union.ensures in (m.0, same_union _ _ _ c.if-code-eq-UNION.true m.1)
+
+pub merge_same_code-returns-then-is_list : goal.merge_same_code-returns-then-is_list
+merge_same_code-returns-then-is_list t c = let m = c.merge_list.ensures in (m.0, same_list _ c.is_list.ensures c.if-is_list.true m.1)
+
+pub merge_same_code-returns : goal.merge_same_code-returns
+merge_same_code-returns t c = let m = c.same_or_clash.ensures in (m.0, same_other _ c.is_list.ensures c.if-is_list.false c.if-code-eq-STRUCT.false c.if-code-eq-UNION.false m.1)
+
+pub merge_struct-returns-in_default : goal.merge_struct-returns-in_default
+merge_struct-returns-in_default t c = let o = c.pour_own-got.ensures in (o.0, struct_stopped _ c.ahead-inner.ensures o.0 o.1 c.in_default.is)
+
+pub merge_struct-returns : goal.merge_struct-returns
+merge_struct-returns t c = let o = c.pour_own-got.ensures in let p = c.pour.ensures in (p.0 ∙ o.0, struct_merged _ c.ahead-inner.ensures o.0 o.1 c.in-Used.is c.ahead.ensures c.two-count.ensures.0 c.ahead-2.ensures p.1)
+
+pub merge_type-returns-then-mine-eq-NULL : goal.merge_type-returns-then-mine-eq-NULL
+merge_type-returns-then-mine-eq-NULL t c = let t = c.take_type.ensures in (t.0, type_taken _ c.code_at-mine.ensures c.byte-theirs.ensures.0 c.if-mine-eq-NULL.true t.1)
+
+pub merge_type-returns-then-theirs-eq-NULL : goal.merge_type-returns-then-theirs-eq-NULL
+merge_type-returns-then-theirs-eq-NULL t c = (refl, type_kept _ c.code_at-mine.ensures c.byte-theirs.ensures.0 c.if-mine-eq-NULL.false c.if-theirs-eq-NULL.true)
+
+pub merge_type-returns-then-mine-theirs : goal.merge_type-returns-then-mine-theirs
+merge_type-returns-then-mine-theirs t c = (refl, type_clash_lem _ c.code_at-mine.ensures c.byte-theirs.ensures.0 c.if-mine-eq-NULL.false c.if-theirs-eq-NULL.false c.if-mine-theirs.true)
+
+pub merge_type-returns : goal.merge_type-returns
+merge_type-returns t c = let m = c.merge_same_code.ensures in (m.0, type_same _ c.code_at-mine.ensures c.byte-theirs.ensures.0 c.if-mine-eq-NULL.false c.if-theirs-eq-NULL.false c.if-mine-theirs.false m.1)
+
+pub pour-loop-left-init : goal.pour-loop-left-init
+pour-loop-left-init t c = pouring_begin _ _ _ _ _ _ _ _
+
+pub pour-returns-in_default : goal.pour-returns-in_default
+pour-returns-in_default t c = pouring_stop c.loop-left.invariant c.loop-left-test.true c.put-step.ensures c.in_default.is
+
+pub pour-loop-left-smaller : goal.pour-loop-left-smaller
+pour-loop-left-smaller t c = omega (arith, c.loop-left-test.true)
+
+pub pour-loop-left-preserved : goal.pour-loop-left-preserved
+pour-loop-left-preserved t c = pouring_again c.loop-left.invariant c.loop-left-test.true c.put-step.ensures c.in-Used.is c.skip_field-place.ensures
+
+pub pour-returns : goal.pour-returns
+pour-returns t c = pouring_done c.loop-left.invariant c.loop-left-test.false
+
+pub pour_own-returns-then-byte-eq1 : goal.pour_own-returns-then-byte-eq1
+pour_own-returns-then-byte-eq1 t c = (refl, struct_open _ c.byte.ensures.0 c.if-byte-eq1.true)
+
+pub pour_own-returns : goal.pour_own-returns
+pour_own-returns t c = let o = c.open_struct-opened.ensures in let p = c.pour.ensures in (p.0 ∙ o.0, struct_poured _ c.byte.ensures.0 c.if-byte-eq1.false c.ahead.ensures c.three-own.ensures.0 c.ahead-inner.ensures c.ahead-2.ensures c.two-count.ensures.0 o.0 o.1 c.ahead-3.ensures p.1)
+
+pub put-returns-in-At : goal.put-returns-in-At
+put-returns-in-At t c = let m = c.merge_field-merged.ensures in (m.0, put_found _ c.find-found.ensures c.in-At.is m.0 m.1 c.next_entry-next.ensures)
+
+pub put-returns-in-Absent : goal.put-returns-in-Absent
+put-returns-in-Absent t c = let i = c.insert_entry-grown.ensures in (i.0, put_absent _ c.find-found.ensures c.in-Absent.is i.0 i.1)

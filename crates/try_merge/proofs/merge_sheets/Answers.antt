@@ -1,0 +1,34 @@
+-- `merge_sheets`: one sheet after the other, up to a clash or the last one.
+use native.Mathlib.Omega.{arith}
+use Rattle.try_merge.proofs.Trains.{merging_begin, merging_ended, merging_full, merging_stop, merging_again, merges_since}
+use Rattle.try_merge.proofs.merge_sheets.Goals as goal
+
+pub returns-then-s-place : goal.returns-then-s-place
+returns-then-s-place c = merges_since _ c.begin_table.ensures.same_length (merging_ended _ c.loop-sheet.invariant c.if-s-place.true)
+
+pub shape_of-w-in-Clash : goal.shape_of-w-in-Clash
+shape_of-w-in-Clash c = omega (arith, c.merge_sheet-merged.ensures.same_length, c.loop-sheet.invariant.same, c.begin_table.ensures.same_length)
+
+pub returns-in-Clash : goal.returns-in-Clash
+returns-in-Clash c = merges_since _ c.begin_table.ensures.same_length (merging_stop _ c.loop-sheet.invariant c.if-s-place.false c.merge_sheet-merged.ensures c.in-Clash.is)
+
+pub loop-sheet-preserved : goal.loop-sheet-preserved
+loop-sheet-preserved c = merging_again _ c.loop-sheet.invariant c.if-s-place.false c.merge_sheet-merged.ensures c.in-Used.is c.skip_sheet-place.ensures
+
+pub returns : goal.returns
+returns c = merges_since _ c.begin_table.ensures.same_length (merging_full _ c.loop-sheet.invariant c.loop-sheet-test.false)
+
+pub loop-sheet-init : goal.loop-sheet-init
+loop-sheet-init c = merging_begin _ c.begin_table.ensures
+
+pub shape_of-w-then-s-place : goal.shape_of-w-then-s-place
+shape_of-w-then-s-place c = omega (arith, c.loop-sheet.invariant.same, c.begin_table.ensures.same_length)
+
+pub overflow_add-sheet : goal.overflow_add-sheet
+overflow_add-sheet c = omega (arith, c.loop-sheet-test.true)
+
+pub loop-sheet-smaller : goal.loop-sheet-smaller
+loop-sheet-smaller c = omega (arith, c.loop-sheet-test.true)
+
+pub shape_of-w : goal.shape_of-w
+shape_of-w c = omega (arith, c.loop-sheet.invariant.same, c.begin_table.ensures.same_length)
