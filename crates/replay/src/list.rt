@@ -1,6 +1,5 @@
 // Reading the stored list from standard input, byte by byte. Where the input ends too early every byte is 0, and the answers differ.
-ghost use Rattle.std.specs.Prelude.{◌≡◌, length};
-ghost use Rattle.io.specs.Counts.{IsPrefixLen};
+ghost use Rattle.std.specs.Prelude.{◌≡◌, ◌≤◌, length, take};
 
 use std::io::Read;
 
@@ -83,7 +82,8 @@ pub fn next_told(input: &mut impl Read) -> Told {
 
 // The number, or the slice's length where that is less.
 pub fn within(n: usize, s: &[u8]) -> usize
-    ensures { IsPrefixLen result s.now }
+    ensures in_bounds { result ≤ length s.now }
+    ensures counts { result ≡ length (take result s.now) }
 {
     if n < s.len() {
         return n;
@@ -134,7 +134,8 @@ fn piece(input: &mut impl Read, dst: &mut [u8], at: usize) -> usize {
 
 // The list's next bytes, at the start of dst: how many they are.
 pub fn next_bytes(input: &mut impl Read, dst: &mut [u8]) -> usize
-    ensures { IsPrefixLen result dst.new }
+    ensures in_bounds { result ≤ length dst.new }
+    ensures counts { result ≡ length (take result dst.new) }
 {
     let mut pieces = next_u16(input);
     let mut next = 0;
