@@ -1,4 +1,5 @@
-// Reading the stored list from standard input, byte by byte. Where the input ends too early every byte is 0, and the answers differ.
+// Reading the stored list from standard input, byte by byte. Where the input ends too early, or cannot be read, every byte is 0, and the
+// answers differ.
 ghost use Rattle.std.specs.Prelude.{◌≡◌, ◌≤◌, length, take};
 
 use std::io::Read;
