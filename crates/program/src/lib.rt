@@ -7,11 +7,8 @@
 ghost use Rattle.program.specs.Input.{Within};
 ghost use Rattle.std.specs.Prelude.{length, ◌-◌, ◌≤◌};
 
-const STANDARD_INPUT: i32 = 0;
-
-const STANDARD_OUTPUT: i32 = 1;
-
-const STANDARD_ERROR: i32 = 2;
+use std::io;
+use std::io::{Input as StandardInput, Read};
 
 // One byte more than an input may have.
 const INPUT_BYTES: usize = line::MAX_PROGRAM_BYTES + 1;
@@ -24,26 +21,24 @@ enum Input {
 }
 
 // One read, into the buffer from an index on. It may give fewer bytes than there is room for, as from a pipe; none is the end of the input.
-fn read_once(buf: &mut [u8], from: usize) -> Input
+fn read_once(reader: &mut impl Read, buf: &mut [u8], from: usize) -> Input
     requires { from ≤ length buf.old }
     ensures { Within result (length buf.old - from) }
 {
-    let got = libc::read(STANDARD_INPUT, &mut buf[from..]);
-    if got < 0 {
-        return Input::Failed;
+    match reader.read(&mut buf[from..]) {
+        Ok(count) => Input::Bytes(count),
+        Err(_) => Input::Failed,
     }
-    let count = io::count(got, &buf[from..]);
-    Input::Bytes(count)
 }
 
 // Reads until the buffer is full or the input ends: the bytes stand at the buffer's start. Of an input that cannot be read to its end
 // nothing is used, since what came is no whole train.
-fn read_input(buf: &mut [u8]) -> Input
+fn read_input(reader: &mut impl Read, buf: &mut [u8]) -> Input
     ensures { Within result (length buf.new) }
 {
     let mut end = 0;
     while end < buf.len() {
-        let read = read_once(buf, end);
+        let read = read_once(reader, buf, end);
         let Input::Bytes(more) = read else {
             return read;
         };
@@ -55,16 +50,16 @@ fn read_input(buf: &mut [u8]) -> Input
     Input::Bytes(end)
 }
 
-// What the programs do: merge in the Rust's mode, merge_parked parked log first.
-pub fn run(parked: bool) {
+// What the programs do: merge in the Rust's mode, merge_parked parked log first. It fails where not even standard error can be written.
+pub fn run(rt: &(impl StandardInput + Print + Eprint), parked: bool) -> io::Result<()> {
     let mut input = [0u8; INPUT_BYTES];
     let mut printed = [0u8; line::MAX_LINE_BYTES];
-    let Input::Bytes(end) = read_input(&mut input) else {
-        io::write_all(STANDARD_ERROR, b"merge: standard input could not be read\n");
-        return;
+    let Input::Bytes(end) = read_input(&mut rt.reader(), &mut input) else {
+        return eprintln!(rt; "merge: standard input could not be read");
     };
     let length = line::program_line(&input[..end], &mut printed, parked);
-    if !io::write_all(STANDARD_OUTPUT, &printed[..length]) {
-        io::write_all(STANDARD_ERROR, b"merge: the line could not be written\n");
+    if rt.write_all(&printed[..length]).is_err() {
+        return eprintln!(rt; "merge: the line could not be written");
     }
+    Ok(())
 }

@@ -4,76 +4,77 @@
 #![tactic(auto)]
 
 use sheet::Step;
+use std::io;
 
 // A line: what was read, number, space, place.
-fn show(what: &[u8], read: Step) {
-    io::write_all(1, what);
+fn show(rt: &impl Print, what: &str, read: Step) -> io::Result<()> {
+    print!(rt; "{what}")?;
     match read {
-        Step::Next(_) => io::write_all(1, b": 0 0\n"),
-        Step::Refused(number, place) => refused(number, place),
-    };
+        Step::Next(_) => println!(rt; ": 0 0"),
+        Step::Refused(number, place) => refused(rt, number, place),
+    }
 }
 
-fn refused(number: u8, place: usize) -> bool {
-    io::write_all(1, b": ");
-    io::print_decimal(1, number as u64);
-    io::write_all(1, b" ");
-    io::print_decimal(1, place as u64);
-    io::write_all(1, b"\n")
+fn refused(rt: &impl Print, number: u8, place: usize) -> io::Result<()> {
+    println!(rt; ": {number} {place}")
 }
 
 // One column with a name of so many bytes that the sheet has 65,535.
-fn longest() {
+fn longest(rt: &impl Print) -> io::Result<()> {
     let mut s = [0u8; 65535];
     s[0] = 2;
     s[1] = 1;
     s[3] = 4;
     s[4] = 0xF8;
     s[5] = 0xFF;
-    show(b"65535 bytes", sheet::read_sheet(&s));
+    show(rt, "65535 bytes", sheet::read_sheet(&s))
 }
 
 // One byte more in the name: the code ends past byte 65,535.
-fn too_long() {
+fn too_long(rt: &impl Print) -> io::Result<()> {
     let mut s = [0u8; 65536];
     s[0] = 2;
     s[1] = 1;
     s[3] = 4;
     s[4] = 0xF9;
     s[5] = 0xFF;
-    show(b"65536 bytes", sheet::read_sheet(&s));
+    show(rt, "65536 bytes", sheet::read_sheet(&s))
 }
 
-fn main() {
+fn main(rt: HostRuntime) -> io::Result<()> {
     // lists in lists, a Null in the last
     show(
-        b"level 32",
+        &rt,
+        "level 32",
         sheet::read_sheet(
             b"\x02\x01\x00\x00\x1b\x00\x1b\x00\x1b\x00\x1b\x00\x1b\x00\x1b\x00\x1b\x00\x1b\x00\x1b\x00\x1b\x00\x1b\x00\x1b\x00\x1b\x00\x1b\x00\x1b\x00\x1b\x00\x1b\x00\x1b\x00\x1b\x00\x1b\x00\x1b\x00\x1b\x00\x1b\x00\x1b\x00\x1b\x00\x1b\x00\x1b\x00\x1b\x00\x1b\x00\x1b\x00\x1b\x00\x00",
         ),
-    );
+    )?;
     show(
-        b"level 33",
+        &rt,
+        "level 33",
         sheet::read_sheet(
             b"\x02\x01\x00\x00\x1b\x00\x1b\x00\x1b\x00\x1b\x00\x1b\x00\x1b\x00\x1b\x00\x1b\x00\x1b\x00\x1b\x00\x1b\x00\x1b\x00\x1b\x00\x1b\x00\x1b\x00\x1b\x00\x1b\x00\x1b\x00\x1b\x00\x1b\x00\x1b\x00\x1b\x00\x1b\x00\x1b\x00\x1b\x00\x1b\x00\x1b\x00\x1b\x00\x1b\x00\x1b\x00\x1b\x00\x1b\x00\x00",
         ),
-    );
+    )?;
     // the sheet 00 so many times
-    show(b"256 sheets", sheet::read_train(&[0u8; 256]));
-    show(b"257 sheets", sheet::read_train(&[0u8; 257]));
-    longest();
-    too_long();
+    show(&rt, "256 sheets", sheet::read_train(&[0u8; 256]))?;
+    show(&rt, "257 sheets", sheet::read_train(&[0u8; 257]))?;
+    longest(&rt)?;
+    too_long(&rt)?;
     show(
-        b"id 127",
+        &rt,
+        "id 127",
         sheet::read_sheet(b"\x02\x01\x00\x00\x21\x00\x01\x00\x7f\x00\x00"),
-    );
+    )?;
     show(
-        b"id 128",
+        &rt,
+        "id 128",
         sheet::read_sheet(b"\x02\x01\x00\x00\x21\x00\x01\x00\x80\x00\x00"),
-    );
-    show(b"no bytes", sheet::read_sheet(b""));
-    show(b"no sheets", sheet::read_train(b""));
-    show(b"a byte behind", sheet::read_sheet(b"\x00\x00"));
-    show(b"two sheets", sheet::read_two(b"\x00", b"\x00"));
-    show(b"second broken", sheet::read_two(b"\x00", b"\x04"));
+    )?;
+    show(&rt, "no bytes", sheet::read_sheet(b""))?;
+    show(&rt, "no sheets", sheet::read_train(b""))?;
+    show(&rt, "a byte behind", sheet::read_sheet(b"\x00\x00"))?;
+    show(&rt, "two sheets", sheet::read_two(b"\x00", b"\x00"))?;
+    show(&rt, "second broken", sheet::read_two(b"\x00", b"\x04"))
 }

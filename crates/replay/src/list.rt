@@ -1,6 +1,8 @@
-// Reading the stored list from standard input, byte by byte. Where the input ends too early every byte is 0, and the answers differ.
-ghost use Rattle.std.specs.Prelude.{◌≡◌, length};
-ghost use Rattle.io.specs.Counts.{IsPrefixLen};
+// Reading the stored list from standard input, byte by byte. Where the input ends too early, or cannot be read, every byte is 0, and the
+// answers differ.
+ghost use Rattle.std.specs.Prelude.{◌≡◌, ◌≤◌, length, take};
+
+use std::io::Read;
 
 // What the list says of a request before its bytes: the operation, its number, and the lengths of the two buffers.
 #[derive(Clone, Copy)]
@@ -32,36 +34,38 @@ pub fn large_space() -> [u8; 300000]
     [0; 300000]
 }
 
-pub fn next_byte() -> u8 {
+pub fn next_byte(input: &mut impl Read) -> u8 {
     let mut one = [0u8; 1];
-    io::read_full(0, &mut one);
-    one[0]
+    match input.read_exact(&mut one) {
+        Ok(()) => one[0],
+        Err(_) => 0,
+    }
 }
 
 // Whether the input is at its end.
-pub fn ended() -> bool {
+pub fn ended(input: &mut impl Read) -> bool {
     let mut one = [0u8; 1];
-    io::read_full(0, &mut one) == 0
+    input.read_exact(&mut one).is_err()
 }
 
-pub fn next_u16() -> u16 {
-    let low = next_byte();
-    let high = next_byte();
+pub fn next_u16(input: &mut impl Read) -> u16 {
+    let low = next_byte(input);
+    let high = next_byte(input);
     low as u16 + 256 * high as u16
 }
 
 // A number of four bytes.
-pub fn next_usize() -> usize {
-    let low = next_u16();
-    let high = next_u16();
+pub fn next_usize(input: &mut impl Read) -> usize {
+    let low = next_u16(input);
+    let high = next_u16(input);
     low as usize + 65536 * high as usize
 }
 
 // The list's next request, up to its bytes.
-pub fn next_asked(operation: u8) -> Asked {
-    let number = next_u16();
-    let work = next_usize();
-    let answer = next_usize();
+pub fn next_asked(input: &mut impl Read, operation: u8) -> Asked {
+    let number = next_u16(input);
+    let work = next_usize(input);
+    let answer = next_usize(input);
     Asked {
         operation,
         number,
@@ -71,15 +75,16 @@ pub fn next_asked(operation: u8) -> Asked {
 }
 
 // What the list says that the Rust gives, up to the answer.
-pub fn next_told() -> Told {
-    let number = next_byte();
-    let place = next_usize();
+pub fn next_told(input: &mut impl Read) -> Told {
+    let number = next_byte(input);
+    let place = next_usize(input);
     Told { number, place }
 }
 
 // The number, or the slice's length where that is less.
 pub fn within(n: usize, s: &[u8]) -> usize
-    ensures { IsPrefixLen result s.now }
+    ensures in_bounds { result ≤ length s.now }
+    ensures counts { result ≡ length (take result s.now) }
 {
     if n < s.len() {
         return n;
@@ -97,11 +102,11 @@ fn put(dst: &mut [u8], at: usize, byte: u8) -> usize {
 }
 
 // Puts so many bytes of the list at an index, and gives the one behind them.
-fn literal(dst: &mut [u8], at: usize, count: u16) -> usize {
+fn literal(input: &mut impl Read, dst: &mut [u8], at: usize, count: u16) -> usize {
     let mut next = at;
     let mut left = count;
     while left > 0 {
-        let byte = next_byte();
+        let byte = next_byte(input);
         next = put(dst, next, byte);
         left -= 1;
     }
@@ -120,22 +125,23 @@ fn repeated(dst: &mut [u8], at: usize, count: u16, byte: u8) -> usize {
 }
 
 // The list's next piece.
-fn piece(dst: &mut [u8], at: usize) -> usize {
-    let bytes = next_u16();
-    let next = literal(dst, at, bytes);
-    let often = next_u16();
-    let byte = next_byte();
+fn piece(input: &mut impl Read, dst: &mut [u8], at: usize) -> usize {
+    let bytes = next_u16(input);
+    let next = literal(input, dst, at, bytes);
+    let often = next_u16(input);
+    let byte = next_byte(input);
     repeated(dst, next, often, byte)
 }
 
 // The list's next bytes, at the start of dst: how many they are.
-pub fn next_bytes(dst: &mut [u8]) -> usize
-    ensures { IsPrefixLen result dst.new }
+pub fn next_bytes(input: &mut impl Read, dst: &mut [u8]) -> usize
+    ensures in_bounds { result ≤ length dst.new }
+    ensures counts { result ≡ length (take result dst.new) }
 {
-    let mut pieces = next_u16();
+    let mut pieces = next_u16(input);
     let mut next = 0;
     while pieces > 0 {
-        next = piece(dst, next);
+        next = piece(input, dst, next);
         pieces -= 1;
     }
     within(next, &dst[..])

@@ -18,6 +18,8 @@ mod list;
 
 use buffer::Outcome;
 use list::{Asked, Told};
+use std::io;
+use std::io::Read;
 
 // The operations of the list.
 const OPERATIONS: u8 = 14;
@@ -53,22 +55,22 @@ fn call(
 }
 
 // Writes the operation's name, that of its export without the prefix, and of a merge that is parked log first its own.
-fn write_name(operation: u8) -> bool {
+fn write_name(rt: &impl Print, operation: u8) -> io::Result<()> {
     match operation {
-        0 => io::write_all(1, b"is_nested"),
-        1 => io::write_all(1, b"index_of"),
-        2 => io::write_all(1, b"flattened_fields"),
-        3 => io::write_all(1, b"equal"),
-        4 => io::write_all(1, b"equals_datatype"),
-        5 => io::write_all(1, b"contains"),
-        6 => io::write_all(1, b"try_new"),
-        7 => io::write_all(1, b"try_from_fields"),
-        8 => io::write_all(1, b"merge"),
-        9 => io::write_all(1, b"project"),
-        10 => io::write_all(1, b"project_strict"),
-        11 => io::write_all(1, b"filter"),
-        12 => io::write_all(1, b"normalize"),
-        _ => io::write_all(1, b"merge_parked_first"),
+        0 => print!(rt; "is_nested"),
+        1 => print!(rt; "index_of"),
+        2 => print!(rt; "flattened_fields"),
+        3 => print!(rt; "equal"),
+        4 => print!(rt; "equals_datatype"),
+        5 => print!(rt; "contains"),
+        6 => print!(rt; "try_new"),
+        7 => print!(rt; "try_from_fields"),
+        8 => print!(rt; "merge"),
+        9 => print!(rt; "project"),
+        10 => print!(rt; "project_strict"),
+        11 => print!(rt; "filter"),
+        12 => print!(rt; "normalize"),
+        _ => print!(rt; "merge_parked_first"),
     }
 }
 
@@ -124,33 +126,33 @@ fn with_work(asked: Asked, first: &[u8], second: &[u8], told: Told, given: &[u8]
 }
 
 // The same, with what the Rust gives, which comes next in the list.
-fn with_answer_given(asked: Asked, first: &[u8], second: &[u8]) -> bool {
-    let told = list::next_told();
+fn with_answer_given(input: &mut impl Read, asked: Asked, first: &[u8], second: &[u8]) -> bool {
+    let told = list::next_told(input);
     let mut given = list::space();
-    let g = list::next_bytes(&mut given);
+    let g = list::next_bytes(input, &mut given);
     with_work(asked, first, second, told, &given[..g])
 }
 
 // The same, with the second bytes of the request, which come next.
-fn with_second(asked: Asked, first: &[u8]) -> bool {
+fn with_second(input: &mut impl Read, asked: Asked, first: &[u8]) -> bool {
     let mut second = list::space();
-    let s = list::next_bytes(&mut second);
-    with_answer_given(asked, first, &second[..s])
+    let s = list::next_bytes(input, &mut second);
+    with_answer_given(input, asked, first, &second[..s])
 }
 
 // The next request of the list: whether it agrees.
-fn request(operation: u8) -> bool {
-    let asked = list::next_asked(operation);
+fn request(input: &mut impl Read, operation: u8) -> bool {
+    let asked = list::next_asked(input, operation);
     let mut first = list::space();
-    let f = list::next_bytes(&mut first);
-    with_second(asked, &first[..f])
+    let f = list::next_bytes(input, &mut first);
+    with_second(input, asked, &first[..f])
 }
 
 // The next requests of one operation, in order, to the first that does not agree: how many agree.
-fn requests(operation: u8, count: u16) -> u16 {
+fn requests(input: &mut impl Read, operation: u8, count: u16) -> u16 {
     let mut agreed = 0;
     while agreed < count {
-        if !request(operation) {
+        if !request(input, operation) {
             break;
         }
         agreed += 1;
@@ -159,45 +161,44 @@ fn requests(operation: u8, count: u16) -> u16 {
 }
 
 // A line for an operation: its name and how many of its requests agree.
-fn show(operation: u8, agreed: u16) {
-    write_name(operation);
-    io::write_all(1, b": ");
-    io::print_decimal(1, agreed as u64);
-    io::write_all(1, b"\n");
+fn show(rt: &impl Print, operation: u8, agreed: u16) -> io::Result<()> {
+    write_name(rt, operation)?;
+    println!(rt; ": {agreed}")
 }
 
 // The requests of one operation: whether all agree.
-fn replay(operation: u8) -> bool {
-    let count = list::next_u16();
-    let agreed = requests(operation, count);
-    show(operation, agreed);
+fn replay(rt: &impl Print, input: &mut impl Read, operation: u8) -> io::Result<bool> {
+    let count = list::next_u16(input);
+    let agreed = requests(input, operation, count);
+    show(rt, operation, agreed)?;
     if agreed < count {
-        io::write_all(1, b"the next one differs\n");
-        return false;
+        println!(rt; "the next one differs")?;
+        return Ok(false);
     }
-    true
+    Ok(true)
 }
 
 // The requests of every operation, to the first that does not agree: whether all do.
-fn replay_all() -> bool {
+fn replay_all(rt: &impl Print, input: &mut impl Read) -> io::Result<bool> {
     let mut operation = 0;
     while operation < OPERATIONS {
-        if !replay(operation) {
-            return false;
+        if !replay(rt, input, operation)? {
+            return Ok(false);
         }
         operation += 1;
     }
-    true
+    Ok(true)
 }
 
-fn main() {
-    if !replay_all() {
-        return;
+fn main(rt: HostRuntime) -> io::Result<()> {
+    let mut input = rt.reader();
+    if !replay_all(&rt, &mut input)? {
+        return Ok(());
     }
-    let last = list::next_byte();
-    if last == LAST && list::ended() {
-        io::write_all(1, b"all agree\n");
+    let last = list::next_byte(&mut input);
+    if last == LAST && list::ended(&mut input) {
+        println!(rt; "all agree")
     } else {
-        io::write_all(1, b"the list does not end where it must\n");
+        println!(rt; "the list does not end where it must")
     }
 }

@@ -2,20 +2,21 @@
 // and Struct{a:Int8, a:Int16} once and twice; and what document 02, Item 6, says of P5 parked log first. A struct that has more than 65,535 children on the way takes buffers that no function here
 // can hold: rust/sheets/tests/counts.rs tries it.
 use crate::showing::{show, show_length};
+use std::io;
 
-fn merge_in_mode(what: &[u8], train: &[u8], parked: bool) {
+fn merge_in_mode(rt: &impl Print, what: &str, train: &[u8], parked: bool) -> io::Result<()> {
     let mut work = [0u8; 1100];
     let mut answer = [0u8; 100];
     let outcome = try_merge::merge(train, &mut work, &mut answer, parked);
-    show(what, outcome, &answer);
+    show(rt, what, outcome, &answer)
 }
 
-fn merge(what: &[u8], train: &[u8]) {
-    merge_in_mode(what, train, false);
+fn merge(rt: &impl Print, what: &str, train: &[u8]) -> io::Result<()> {
+    merge_in_mode(rt, what, train, false)
 }
 
-fn merge_parked(what: &[u8], train: &[u8]) {
-    merge_in_mode(what, train, true);
+fn merge_parked(rt: &impl Print, what: &str, train: &[u8]) -> io::Result<()> {
+    merge_in_mode(rt, what, train, true)
 }
 
 // Writes bytes over as many at an index, if they are there.
@@ -32,7 +33,7 @@ fn paste(train: &mut [u8], at: usize, bytes: &[u8]) {
 // Two sheets of one Int8 column each, with names of 32,762 bytes, and of as many or one more: `low` is the low byte of the second length,
 // and `last` the place of the last byte. The merged sheet has a map, a count, and for each column a map, a length, the name and a code:
 // 11 bytes and the names.
-fn long_names(what: &[u8], low: u8, last: usize) {
+fn long_names(rt: &impl Print, what: &str, low: u8, last: usize) -> io::Result<()> {
     let mut train = [b'a'; 65539];
     let mut work = [0u8; 262156];
     let mut answer = [0u8; 65535];
@@ -42,73 +43,87 @@ fn long_names(what: &[u8], low: u8, last: usize) {
     paste(&mut train, last, b"\x02");
     if last < 65539 {
         let outcome = try_merge::merge(&train[..last + 1], &mut work, &mut answer, false);
-        show_length(what, outcome);
+        show_length(rt, what, outcome)?;
     }
+    Ok(())
 }
 
-pub fn merges() {
-    merge(b"P1", b"");
-    merge(b"P2", b"\x02\x01\x00\x04\x01\x00v\x00");
+pub fn merges(rt: &impl Print) -> io::Result<()> {
+    merge(rt, "P1", b"")?;
+    merge(rt, "P2", b"\x02\x01\x00\x04\x01\x00v\x00")?;
     merge(
-        b"P3",
+        rt,
+        "P3",
         b"\x02\x01\x00\x04\x01\x00v\x00\x02\x01\x00\x04\x01\x00v\x04",
-    );
+    )?;
     merge(
-        b"P4",
+        rt,
+        "P4",
         b"\x02\x01\x00\x04\x01\x00v\x00\x02\x01\x00\x04\x01\x00v\x00",
-    );
+    )?;
     merge(
-        b"P5",
+        rt,
+        "P5",
         b"\x02\x01\x00\x04\x01\x00v\x00\x02\x01\x00\x06\x01\x00v\x22\x02\x18",
-    );
+    )?;
     merge(
-        b"P6",
+        rt,
+        "P6",
         b"\x02\x01\x00\x04\x01\x00v\x21\x00\x02\x00\x00\x04\x01\x00x\x02\x01\x04\x01\x00x\x02\x02\x01\x00\x04\x01\x00v\x21\x00\x02\x00\x00\x04\x01\x00x\x02\x01\x04\x01\x00x\x02",
-    );
+    )?;
     merge(
-        b"P7",
+        rt,
+        "P7",
         b"\x02\x01\x00\x04\x01\x00v\x21\x00\x01\x00\x00\x04\x01\x00x\x02\x02\x01\x00\x04\x01\x00v\x21\x01\x01\x00\x01\x04\x01\x00y\x02",
-    );
+    )?;
     merge(
-        b"P8",
+        rt,
+        "P8",
         b"\x02\x01\x00\x04\x01\x00v\x1b\x04\x04\x00item\x02\x02\x01\x00\x04\x01\x00v\x1b\x04\x07\x00element\x02",
-    );
+    )?;
     merge(
-        b"Struct{a:Int8, a:Int16} once",
+        rt,
+        "Struct{a:Int8, a:Int16} once",
         b"\x02\x01\x00\x04\x01\x00v\x20\x02\x00\x04\x01\x00a\x02\x04\x01\x00a\x03",
-    );
+    )?;
     merge(
-        b"Struct{a:Int8, a:Int16} twice",
+        rt,
+        "Struct{a:Int8, a:Int16} twice",
         b"\x02\x01\x00\x04\x01\x00v\x20\x02\x00\x04\x01\x00a\x02\x04\x01\x00a\x03\x02\x01\x00\x04\x01\x00v\x20\x02\x00\x04\x01\x00a\x02\x04\x01\x00a\x03",
-    );
+    )?;
     // the sheet 00 so many times
     let sheets = [0u8; 257];
-    merge(b"256 sheets", &sheets[..256]);
-    merge(b"257 sheets", &sheets);
-    long_names(b"an answer of 65535 bytes", 0xfa, 65537);
-    long_names(b"an answer of 65536 bytes", 0xfb, 65538);
+    merge(rt, "256 sheets", &sheets[..256])?;
+    merge(rt, "257 sheets", &sheets)?;
+    long_names(rt, "an answer of 65535 bytes", 0xfa, 65537)?;
+    long_names(rt, "an answer of 65536 bytes", 0xfb, 65538)
 }
 
 // The mode "Parked log first": Dictionary(Int8, Utf8) is 22 02 18.
-pub fn parked_merges() {
+pub fn parked_merges(rt: &impl Print) -> io::Result<()> {
     merge_parked(
-        b"P5 parked log first",
+        rt,
+        "P5 parked log first",
         b"\x02\x01\x00\x04\x01\x00v\x00\x02\x01\x00\x06\x01\x00v\x22\x02\x18",
-    );
+    )?;
     merge_parked(
-        b"P5 turned round, parked log first",
+        rt,
+        "P5 turned round, parked log first",
         b"\x02\x01\x00\x06\x01\x00v\x22\x02\x18\x02\x01\x00\x04\x01\x00v\x00",
-    );
+    )?;
     merge_parked(
-        b"Struct{x:Null, y:List(x:Null)}, then with ordered dictionaries, parked log first",
+        rt,
+        "Struct{x:Null, y:List(x:Null)}, then with ordered dictionaries, parked log first",
         b"\x02\x01\x00\x04\x01\x00v\x20\x02\x00\x04\x01\x00x\x00\x04\x01\x00y\x1b\x04\x01\x00x\x00\x02\x01\x00\x04\x01\x00v\x20\x02\x00\x06\x01\x00x\x22\x02\x18\x04\x01\x00y\x1b\x06\x01\x00x\x22\x02\x18",
-    );
+    )?;
     merge_parked(
-        b"ordered, Null, unordered, parked log first",
+        rt,
+        "ordered, Null, unordered, parked log first",
         b"\x02\x01\x00\x06\x01\x00v\x22\x02\x18\x02\x01\x00\x04\x01\x00v\x00\x02\x01\x00\x04\x01\x00v\x22\x02\x18",
-    );
+    )?;
     merge_parked(
-        b"an ordered dictionary, then Utf8, parked log first",
+        rt,
+        "an ordered dictionary, then Utf8, parked log first",
         b"\x02\x01\x00\x06\x01\x00v\x22\x02\x18\x02\x01\x00\x04\x01\x00v\x18",
-    );
+    )
 }

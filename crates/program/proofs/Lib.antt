@@ -1,2 +1,0 @@
--- The laws about `specs/` that the proofs here cite.
-pub mod Inputs
