@@ -15,7 +15,7 @@ import re
 import sys
 
 NAME = r"[^\s(){}.;,@\"«»]+"
-HEAD = re.compile(rf"^( *)((?:abbrev|unfoldable|pub|ruleset|data|record)\s+)*({NAME})((?:\s*\{{[^{{}}]*\}}|\s*\([^()]*\))*)\s*:\s")
+HEAD = re.compile(rf"^( *)((?:abbrev|unfoldable|pub|ruleset|data|record)\s+)*({NAME})((?:\s*\{{[^{{}}]*\}}|\s*\([^()]*\))*)\s*:(?:\s|$)")
 USE = re.compile(r"\buse ([^\s;{]+)\.\{([^}]*)\}")
 CLAUSE = re.compile(r"(?:requires|ensures)\s*\*?\s*(?:\w+\s*)?\{|ghost\s+use\b|ghost\s*(?:\w+\s*(?::\s*)?)?\{")
 

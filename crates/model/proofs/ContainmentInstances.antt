@@ -22,10 +22,10 @@ one = sheets.v (sheets.union 0 1 (0 ∷ sheets.field sheets.x sheets.int8))
 abbrev two : Bytes
 two = sheets.v (sheets.union 0 2 ((0 ∷ sheets.field sheets.x sheets.int8) ++ (1 ∷ sheets.field sheets.y sheets.int8)))
 
-pub chain-answers :
+pub chain_answers :
     (contains_answer none one ≡ bytes (1 ∷ [])) × (contains_answer one two ≡ bytes (1 ∷ [])) × (contains_answer none two ≡ bytes (1 ∷ [])) × (contains_answer two none ≡ bytes (0 ∷ []))
 unfolding opened
-chain-answers = (refl, refl, refl, refl)
+chain_answers = (refl, refl, refl, refl)
 
 -- the call on the last of them and itself, with just enough room
 pub itself_answered : SaysYes (contains_call two two (zeros 184) (zeros 1))

@@ -65,10 +65,10 @@ instance_onto true =
     (reads_through (saved ++ log) refl) (reads_through (P3 ++ log) refl) (leb→le 84 100 tt) (leb→le 116 200 tt) refl
 
 -- behind two sheets of 16 bytes: a clash at the further sheet 1, an unknown bit at the further byte 1, and no place for 30, 31 and acceptance
-pub places-counted :
+pub places_counted :
     (place_behind 2 16 22 1 ≡ 3) × (place_behind 2 16 2 1 ≡ 17) × (place_behind 2 16 30 1 ≡ 0) × (place_behind 2 16 31 1 ≡ 0) × (place_behind 2 16 0 1 ≡ 0)
 unfolding opened place_behind
-places-counted = (refl, refl, refl, refl, refl)
+places_counted = (refl, refl, refl, refl, refl)
 
 -- parked log first, P5's two sheets come to a nullable ordered dictionary, and then an unordered one clashes, at another place
 
@@ -78,11 +78,11 @@ P5 = sheets.v sheets.null ++ sheets.one (sheets.ordered 0x76 sheets.p5)
 abbrev saved_parked : Bytes
 saved_parked = sheets.one (sheets.nullable_ordered 0x76 sheets.p5)
 
-pub instance-parked :
+pub instance_parked :
     (merge_answer parked_first P5 ≡ bytes saved_parked)
     × (merge_answer parked_first (saved_parked ++ sheets.v sheets.p5) ≡ refused 20 1) × (merge_answer parked_first (P5 ++ sheets.v sheets.p5) ≡ refused 20 2)
 unfolding opened
-instance-parked = (refl, refl, refl)
+instance_parked = (refl, refl, refl)
 
 -- Struct{a:Int8, a:Int8} is kept as it is where a Null takes it, and where it is merged onto nothing; the next Struct folds it, both times.
 
