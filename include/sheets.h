@@ -1,4 +1,4 @@
-/* The calls of the port for C: target/staticlib/libexports.a, which `rt staticlib exports` makes.
+/* The calls of the port for C: crates/exports/out/libexports.a, which `rt lib` in crates/exports makes.
  *
  * Each gives document 01's number (0: accepted), and sets *place and *length: the place that the
  * number names, and how many bytes of the answer buffer are the answer. A refusal touches no byte

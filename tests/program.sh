@@ -5,8 +5,8 @@
 # The last line is 'N passed, M failed'; the status is 0 only where M is 0.
 set -u
 cd "$(dirname "$0")/.." || exit 1
-program=target/bin/merge
-parked=target/bin/merge_parked
+program=crates/merge/out/merge
+parked=crates/merge_parked/out/merge_parked
 passed=0
 failed=0
 wanted=$(mktemp) || exit 1
@@ -14,7 +14,8 @@ printed=$(mktemp) || exit 1
 trap 'rm -f "$wanted" "$printed"' EXIT
 
 # proves and builds the programs and what they are made of, where that has changed since
-if ! rt check merge merge_parked || [ ! -x "$program" ] || [ ! -x "$parked" ]; then
+built() (cd "crates/$1" && rt run </dev/null && [ -x "out/$1" ])
+if ! built merge || ! built merge_parked; then
   echo "FAILED: the programs were not built"
   echo "0 passed, 1 failed"
   exit 1

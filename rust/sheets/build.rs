@@ -8,12 +8,12 @@ fn main() {
         return;
     }
     let here = std::env::var("CARGO_MANIFEST_DIR").expect("cargo says where the package stands");
-    let folder = Path::new(&here).join("../../target/staticlib");
+    let folder = Path::new(&here).join("../../crates/exports/out");
     let library = folder.join("libexports.a");
     println!("cargo:rerun-if-changed={}", library.display());
     if !library.is_file() {
-        eprintln!("target/staticlib/libexports.a of the repository is missing:");
-        eprintln!("make it with `rt staticlib exports`, or build without the feature linked");
+        eprintln!("crates/exports/out/libexports.a of the repository is missing:");
+        eprintln!("make it with `rt lib` in crates/exports, or build without the feature linked");
         std::process::exit(1);
     }
     println!("cargo:rustc-link-search=native={}", folder.display());

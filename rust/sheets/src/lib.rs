@@ -5,8 +5,8 @@
 //! a sentence that says what they mean. The calls with lent buffers, as the library has
 //! them, are in `lent`.
 //!
-//! The feature `linked` links target/staticlib/libexports.a of the repository, which
-//! `rt staticlib exports` makes; without it only [`Refusal`] and [`Mode`] are here.
+//! The feature `linked` links crates/exports/out/libexports.a of the repository, which
+//! `rt lib` in crates/exports makes; without it only [`Refusal`] and [`Mode`] are here.
 #![cfg_attr(feature = "linked", doc = "")]
 #![cfg_attr(feature = "linked", doc = include_str!("../README.md"))]
 #![deny(missing_docs)]
