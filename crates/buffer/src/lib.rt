@@ -159,6 +159,7 @@ pub fn lacks_room_for_two(work: usize, one: usize, other: usize) -> bool
 
 // 30, 31, or the bytes at the answer buffer's start. It holds whatever the work buffer has, so it also ends the calls that have none, and
 // those whose answer lies in the work buffer, which they clear next.
+#[tactic(auto, using(crate::proofs::Ends::acceptance_long))]
 pub fn write_answer(answer: &mut [u8], bytes: &[u8]) -> Outcome
     ensures { (work : Bytes) → leaves result answer.new work ≡ acceptance bytes.now work answer.old }
 {

@@ -4,7 +4,7 @@ use mathlib.Core.Path.{◌≡◌, refl, sym, ap, subst, ◌∙◌}
 use mathlib.Core.List.{List, [], ◌∷◌, ◌++◌, map}
 use mathlib.Core.Bool.{Bool, true, false, not, cond, ◌||◌}
 use lib.ListN.{length}
-use lib.Dec.{T, eqb, leb}
+use lib.Dec.{eqb, leb}
 use borrow.Author.Tests.{eqb-true, eqb-false, ne_eqb, not-true, not-false}
 use Rattle.model.specs.Bytes.{Bytes, Metadata, Every, among}
 use Rattle.model.specs.Tree.{FieldOver, DataType, Field, Schema, with_children, Children, counted, counted_with_ids}

@@ -1,6 +1,5 @@
 -- P1 to P12, proved as one statement by computation, and the trials of the dictionary number.
-use mathlib.Core.Path.{◌≡◌, refl}
-use mathlib.Core.List.{[], ◌∷◌}
+use mathlib.Core.Path.{refl}
 use Rattle.model.specs.Bytes.{choose, all, any, num, u16, u64, bit, same, onward, position, below, among, get_is}
 use Rattle.model.specs.Text.{rows, row_of, utf8_from, utf8}
 use Rattle.model.specs.Tree.{table, layout}
@@ -8,7 +7,7 @@ use Rattle.model.specs.Sheet.{with_count, text_bytes, pair_bytes, front_bytes, h
 use Rattle.model.specs.Read.{next, judged, if_set, unless, ◌then◌, read_many, read_item, read_number, read_text, read_pair, read_list, read_metadata, read_dict_id, read_field, read_bare_type, read_union_child, read_children, read_zone, read_params, read_type, read_column, read_schema, read_sheet, shifted, read_two, read_sheets, read_train}
 use Rattle.model.specs.Equal.{same_field, same_child, same_type, same_columns}
 use Rattle.model.specs.Datatype.{holds_fields, encodes, of_second, is_nested, equals_field, equals_child, equals_datatype, contains_metadata, contains_field, contains_child, contains, contains_schema, equals_columns}
-use Rattle.model.specs.Merge.{◌>>=◌, need, pour, merge_pair, merge_metadata, merge_by_name, merge_child, ids_differ, as_the_rust, parked_first, orders_agree, merged_order, merge_field, merge_each, is_null, merge_same_code, merge_type, merge_schema, placed, merge_from, try_merge}
+use Rattle.model.specs.Merge.{◌>>=◌, need, pour, merge_pair, merge_metadata, merge_by_name, merge_child, ids_differ, orders_agree, merged_order, merge_field, merge_each, is_null, merge_same_code, merge_type, merge_schema, placed, merge_from, try_merge}
 use Rattle.model.specs.Schema.{indices, select, index_fits, selected, project, lift, join, expand, normalized_columns, normalize}
 use Rattle.model.specs.Filter.{filter_each, filter_leaf, filter_to, filter_field, with_left, around, look_through, filter_type, leaves_of_second, field_leaf_count, leaf_count_of_each, type_leaf_count, leaf_count, filter_columns, filter_leaves}
 use Rattle.model.specs.Call.{and_then, sheet_answer, yes_no, merge_answer, project_answer, filter_answer, normalize_answer, contains_answer, equal_answer, equals_datatype_answer, zeros, refusal, acceptance, settled, call}

@@ -11,11 +11,11 @@ returns-then-outcome-ne-ACCEPTED c work =
 
 pub returns-then-answer-length : goal.returns-then-answer-length
 returns-then-answer-length c work =
-    answer_whole _ _ work c.if-outcome-ne-ACCEPTED.false c.if-answer-length.true c.put_hex.ensures
+    answer_whole _ _ work (omega arith) c.if-answer-length.true c.put_hex.ensures
 
 pub slice_bounds-put_hex-end : goal.slice_bounds-put_hex-end
 slice_bounds-put_hex-end c = sym (length-take-le _ _ (omega arith))
 
 pub returns : goal.returns
 returns c work =
-    answer_part _ _ work c.if-outcome-ne-ACCEPTED.false c.put_hex-2.ensures
+    answer_part _ _ work (omega arith) c.put_hex-2.ensures

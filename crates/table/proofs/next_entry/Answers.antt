@@ -4,16 +4,7 @@ use Rattle.table.proofs.Entries.{past_entry, plain_entry}
 use Rattle.table.proofs.next_entry.Goals as goal
 
 pub returns-then-w-at : goal.returns-then-w-at
-returns-then-w-at c = past_entry _ _ c.if-w-at.true
-
-pub returns-then-w-at-lt8 : goal.returns-then-w-at-lt8
-returns-then-w-at-lt8 c = c.skip_entry.ensures
-
-pub returns-then-w-at-ge4 : goal.returns-then-w-at-ge4
-returns-then-w-at-ge4 c = c.skip_entry-then-w-at-ge4.ensures
-
-pub returns-then-w-at-ne0 : goal.returns-then-w-at-ne0
-returns-then-w-at-ne0 c = c.skip_entry-then-w-at-ne0.ensures
+returns-then-w-at c = past_entry _ _ (omega arith)
 
 pub returns : goal.returns
-returns c = plain_entry _ (omega arith) c.if-w-at-ne0.false (omega arith)
+returns c = plain_entry _ (omega arith) (omega arith) (omega arith)
