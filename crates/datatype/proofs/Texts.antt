@@ -231,27 +231,27 @@ value_stands : {s : Bytes} {place value : ℕ} (p : Bytes × Bytes) → Text' s 
 unfolding pair_bytes
 value_stands p f st = stands_behind (f p.0) st
 
--- the pairs of which a key with a value is asked: those left decide
-abbrev pub Gets : (s t : Bytes) (key first count place left : ℕ) → Type 0
-Gets s t key first count place left = (p : Bytes × Bytes) → Stands t key (pair_bytes p)
-    → Seeks Any pair_bytes s (λ m. get_is m p.0 p.1) (λ m. get_is m p.0 p.1) first count place left
+-- the pairs of which a key with a value is asked: those behind the i passed decide
+abbrev pub Gets : (s t : Bytes) (key first count place i : ℕ) → Type 0
+Gets s t key first count place i = (p : Bytes × Bytes) → Stands t key (pair_bytes p)
+    → Seeks Any pair_bytes s (λ m. get_is m p.0 p.1) (λ m. get_is m p.0 p.1) first count place i
 
 -- what `get_is` ensures
 abbrev pub Got : (s t : Bytes) (key first count : ℕ) → Bool → Type 0
 Got s t key first count r = (p : Bytes × Bytes) (m : Metadata) → length m ≡ count → Stands t key (pair_bytes p) → Stands s first (each pair_bytes m) → r ≡ get_is m p.0 p.1
 
 module _ (s t : Bytes) where
-  pub gets_begin : (key first count : ℕ) → Gets s t key first count first count
+  pub gets_begin : (key first count : ℕ) → Gets s t key first count first 0
   gets_begin key first count p st = seeks_begin Any pair_bytes s _ first count
 
-  module _ {key first count place left : ℕ} (k : Gets s t key first count place left) where
-    pub gets_again : {own r : ℕ} {b : Bool} → 0 < left → Texts s place t key b → b ≡ false → Text' s place own → Text' s own r → Gets s t key first count r (left - 1)
+  module _ {key first count place i : ℕ} (k : Gets s t key first count place i) where
+    pub gets_again : {own r : ℕ} {b : Bool} → i < count → Texts s place t key b → b ≡ false → Text' s place own → Text' s own r → Gets s t key first count r (i + 1)
     unfolding get_is choose
     gets_again h c e f g p st =
         seeks_again Any pair_bytes s (k p st) h (λ q w. pair_skips f g q) λ q m w st'.
         ap (λ x. choose x (λ u. same_bytes q.1 p.1) (λ u. get_is m p.0 p.1)) (sym (c q.0 p.0 (key_stands q st') (key_stands p st)) ∙ e)
 
-    pub gets_found : {own value : ℕ} {b r : Bool} → 0 < left → Texts s place t key b → b ≡ true → Text' s place own → Text' t key value → Texts s own t value r → Got s t key first count r
+    pub gets_found : {own value : ℕ} {b r : Bool} → i < count → Texts s place t key b → b ≡ true → Text' s place own → Text' t key value → Texts s own t value r → Got s t key first count r
     unfolding get_is choose
     gets_found h c e f g d p m n st st' =
         seeks_stop Any pair_bytes s (k p st) h
@@ -260,26 +260,26 @@ module _ (s t : Bytes) where
         ∙ sym (ap (λ x. choose x (λ u. same_bytes q.1 p.1) (λ u. get_is ps p.0 p.1)) (sym (c q.0 p.0 (key_stands q u) (key_stands p st)) ∙ e)))
         m n (every_unit m) st'
 
-    pub gets_none : left ≤ 0 → Got s t key first count false
+    pub gets_none : count ≤ i → Got s t key first count false
     unfolding get_is
     gets_none h p m n st st' = seeks_done Any pair_bytes s (k p st) h refl m n (every_unit m) st'
 
 -- Metadata that contains other metadata
 
--- the pairs asked that are left decide, whatever metadata stands in the first sheet
-abbrev pub Asks : (s : Bytes) (count at : ℕ) (t : Bytes) (first asked place left : ℕ) → Type 0
-Asks s count at t first asked place left = (m : Metadata) → PairsAt s m count at → Seeks Any pair_bytes t (contains_metadata m) (contains_metadata m) first asked place left
+-- the pairs asked behind the i passed decide, whatever metadata stands in the first sheet
+abbrev pub Asks : (s : Bytes) (count at : ℕ) (t : Bytes) (first asked place i : ℕ) → Type 0
+Asks s count at t first asked place i = (m : Metadata) → PairsAt s m count at → Seeks Any pair_bytes t (contains_metadata m) (contains_metadata m) first asked place i
 
 -- what `contains_metadata` ensures
 abbrev pub Contained : (s : Bytes) (count at : ℕ) (t : Bytes) (asked first : ℕ) → Bool → Type 0
 Contained s count at t asked first r = (m other : Metadata) → PairsAt s m count at → PairsAt t other asked first → r ≡ contains_metadata m other
 
 module _ (s t : Bytes) where
-  pub asks_begin : (count at first asked : ℕ) → Asks s count at t first asked first asked
+  pub asks_begin : (count at first asked : ℕ) → Asks s count at t first asked first 0
   asks_begin count at first asked m w = seeks_begin Any pair_bytes t _ first asked
 
-  module _ {count at first asked place left : ℕ} (k : Asks s count at t first asked place left) (h : 0 < left) {b : Bool} (c : Got s t place at count b) where
-    pub asks_again : {value r : ℕ} → b ≡ true → Text' t place value → Text' t value r → Asks s count at t first asked r (left - 1)
+  module _ {count at first asked place i : ℕ} (k : Asks s count at t first asked place i) (h : i < asked) {b : Bool} (c : Got s t place at count b) where
+    pub asks_again : {value r : ℕ} → b ≡ true → Text' t place value → Text' t value r → Asks s count at t first asked r (i + 1)
     unfolding contains_metadata all
     asks_again e f g m w =
         seeks_again Any pair_bytes t (k m w) h (λ q v. pair_skips f g q) λ q qs v st.
@@ -291,6 +291,6 @@ module _ (s t : Bytes) where
         seeks_stop Any pair_bytes t (k m w) h (λ q qs v st. ap (λ x. x && contains_metadata m qs) (sym e ∙ c q m w.count st w.stands))
         other w'.count (every_unit other) w'.stands
 
-  pub asks_done : {count at first asked place left : ℕ} → Asks s count at t first asked place left → left ≤ 0 → Contained s count at t asked first true
+  pub asks_done : {count at first asked place i : ℕ} → Asks s count at t first asked place i → asked ≤ i → Contained s count at t asked first true
   unfolding contains_metadata all
   asks_done k h m other w w' = seeks_done Any pair_bytes t (k m w) h refl other w'.count (every_unit other) w'.stands

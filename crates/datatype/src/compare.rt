@@ -217,19 +217,17 @@ pub fn compare_row(
 ) -> bool
     ensures { (l : ℕ) (js ks : List (Field l)) → l ≤ levels → length js ≡ count → length ks ≡ count → Every (Child l (children_by kind)) js → Every (Child l (children_by kind)) ks → Stands s.now a (each (child_bytes l (children_by kind)) js) → Stands t.now b (each (child_bytes l (children_by kind)) ks) → result ≡ same (compare_child how l) js ks }
 {
+    if count == 0 {
+        return true;
+    }
     let mut place = a;
     let mut other = b;
-    let mut left = count;
-    while 1 < left {
+    for _ in 1..count {
         if !compare_child(s, place, t, other, kind, levels, how) {
             return false;
         }
         place = skip_child(s, place, kind, levels);
         other = skip_child(t, other, kind, levels);
-        left -= 1;
-    }
-    if left == 0 {
-        return true;
     }
     compare_child(s, place, t, other, kind, levels, how)
 }
@@ -275,13 +273,11 @@ fn has_member(
     ensures { (l : ℕ) (j : Field l) (ks : List (Field l)) → l ≤ levels → length ks ≡ count → Child l (children_by 5) j → Every (Child l (children_by 5)) ks → Stands s.now a (child_bytes l (children_by 5) j) → Stands t.now b (each (child_bytes l (children_by 5)) ks) → result ≡ any (compare_child how l j) ks }
 {
     let mut place = b;
-    let mut left = count;
-    while 0 < left {
+    for _ in 0..count {
         if compare_child(s, a, t, place, 5, levels, how) {
             return true;
         }
         place = skip_child(t, place, 5, levels);
-        left -= 1;
     }
     false
 }
@@ -301,13 +297,11 @@ fn every_member(
     ensures { (l : ℕ) (js ks : List (Field l)) → l ≤ levels → length js ≡ n → length ks ≡ m → Every (Child l (children_by 5)) js → Every (Child l (children_by 5)) ks → Stands s.now a (each (child_bytes l (children_by 5)) js) → Stands t.now b (each (child_bytes l (children_by 5)) ks) → result ≡ all (λ j. any (compare_child how l j) ks) js }
 {
     let mut place = a;
-    let mut left = n;
-    while 0 < left {
+    for _ in 0..n {
         if !has_member(s, place, t, b, m, levels, how) {
             return false;
         }
         place = skip_child(s, place, 5, levels);
-        left -= 1;
     }
     true
 }

@@ -6,9 +6,9 @@
 mod compare;
 pub mod metadata;
 
-ghost use Rattle.std.specs.Prelude.{◌≡◌, List, map, ℕ, ◌≤◌, length};
+ghost use Rattle.std.specs.Prelude.{◌≡◌, List, map, ℕ, ◌≤◌, length, Bool};
 ghost use Rattle.model.specs.Numbers.{max_levels};
-ghost use Rattle.model.specs.Bytes.{Bytes, Every, same, flag};
+ghost use Rattle.model.specs.Bytes.{Bytes, Every, same, flag, position};
 ghost use Rattle.model.specs.Tree.{DataType, Field, Schema};
 ghost use Rattle.model.specs.Sheet.{each, field_bytes, type_bytes, sheet_bytes, column_bytes};
 ghost use Rattle.model.specs.Tree.Children.{counted};
@@ -20,7 +20,7 @@ ghost use Rattle.model.specs.Call.{equal_call, equals_datatype_call, contains_ca
 ghost use Rattle.buffer.specs.Buffer.{pasted};
 ghost use Rattle.buffer.specs.Leaves.{leaves};
 ghost use Rattle.walk.specs.Stands.{Stands, member_bytes};
-ghost use Rattle.datatype.specs.Answers.{match_of};
+ghost use Rattle.datatype.specs.Answers.{match_of, TestedBy};
 ghost use Rattle.datatype.specs.Comparisons.{compare_child, compare_schema, compare_call};
 
 use buffer::Outcome;
@@ -42,27 +42,32 @@ pub fn same_field(s: &[u8], a: usize, t: &[u8], b: usize, levels: usize) -> bool
     compare_field(s, a, t, b, levels, Comparison::Equal)
 }
 
-// The position of the first union child that matches, or none.
-#[derive(Clone, Copy)]
-pub enum Match {
-    First(usize),
-    Missing,
+// The position of the first of so many union children, one behind the other from a place on, at whose place a test says yes.
+fn find_child<F: Fn(usize) -> bool>(
+    s: &[u8],
+    at: usize,
+    count: usize,
+    levels: usize,
+    matches: F,
+) -> Option<usize>
+    requires { F.IsAlwaysCallable matches }
+    ensures { (l : ℕ) (test : Field l → Bool) (ks : List (Field l)) → l ≤ levels → length ks ≡ count → Every (λ k. LaidOut l k.data_type × TestedBy (F.post matches) s.now l test k) ks → Stands s.now at (each (member_bytes l) ks) → result ≡ match_of (position test ks) }
+{
+    let mut place = at;
+    for i in 0..count {
+        if matches(place) {
+            return Some(i);
+        }
+        place = walk::skip_field(s, walk::ahead(s, place, 1), levels);
+    }
+    None
 }
 
 // `UnionFields::find_by_type_id`: the first of so many union children, one behind the other from a place on, that has this id.
-pub fn find_by_type_id(s: &[u8], at: usize, count: usize, id: usize, levels: usize) -> Match
+pub fn find_by_type_id(s: &[u8], at: usize, count: usize, id: usize, levels: usize) -> Option<usize>
     ensures { (l : ℕ) (ks : List (Field l)) → l ≤ levels → length ks ≡ count → Every (λ k. LaidOut l k.data_type) ks → Stands s.now at (each (member_bytes l) ks) → result ≡ match_of (find_by_type_id ks id) }
 {
-    let mut place = at;
-    let mut i = 0;
-    while i < count {
-        if walk::byte(s, place) == id {
-            return Match::First(i);
-        }
-        place = walk::skip_field(s, walk::ahead(s, place, 1), levels);
-        i += 1;
-    }
-    Match::Missing
+    find_child(s, at, count, levels, |place| walk::byte(s, place) == id)
 }
 
 // `UnionFields::find_by_field`: the first of them whose field is equal to the one that stands at a place of another sheet.
@@ -73,20 +78,12 @@ pub fn find_by_field(
     t: &[u8],
     field: usize,
     levels: usize,
-) -> Match
+) -> Option<usize>
     ensures { (l : ℕ) (g : Field l) (ks : List (Field l)) → l ≤ levels → length ks ≡ count → Whole l g.data_type → Every (λ k. Whole l k.data_type) ks → Stands t.now field (field_bytes (type_bytes l) g) → Stands s.now at (each (member_bytes l) ks) → result ≡ match_of (find_by_field (same_type l) ks g) }
 {
-    let mut place = at;
-    let mut i = 0;
-    while i < count {
-        let own = walk::ahead(s, place, 1);
-        if same_field(s, own, t, field, levels) {
-            return Match::First(i);
-        }
-        place = walk::skip_field(s, own, levels);
-        i += 1;
-    }
-    Match::Missing
+    find_child(s, at, count, levels, |place| {
+        same_field(s, walk::ahead(s, place, 1), t, field, levels)
+    })
 }
 
 // The columns of two sheets, by position.
@@ -116,17 +113,7 @@ fn compare_sheets(s: &[u8], t: &[u8], how: Comparison) -> bool
     }
 }
 
-// "one byte, 1 for yes and 0 for no"
-fn yes_no(yes: bool) -> u8
-    ensures { result ≡ flag 1 yes }
-{
-    if yes {
-        return 1;
-    }
-    0
-}
-
-// The call on two sheets: 32, a sheet refused, or the byte.
+// The call on two sheets: 32, a sheet refused, or "one byte, 1 for yes and 0 for no".
 fn answer_comparison(
     sheet: &[u8],
     other: &[u8],
@@ -145,7 +132,7 @@ fn answer_comparison(
         Step::Next(end) => buffer::accept_byte(
             work,
             answer,
-            yes_no(compare_sheets(sheet, other, how)),
+            u8::from(compare_sheets(sheet, other, how)),
         ),
     }
 }
@@ -171,18 +158,15 @@ pub fn contains(sheet: &[u8], other: &[u8], work: &mut [u8], answer: &mut [u8]) 
     answer_comparison(sheet, other, work, answer, Comparison::Contains)
 }
 
-// One byte for each column, over the answer's beginning, of so many columns that stand one behind the other at a place.
-fn write_nested(sheet: &[u8], at: usize, count: usize, answer: &mut [u8])
-    requires { count ≤ length answer.old }
-    ensures { (fs : List (Field max_levels)) → length fs ≡ count → Every (λ f. LaidOut max_levels f.data_type) fs → Stands sheet.now at (each column_bytes fs) → answer.new ≡ pasted answer.old 0 (map (λ f. flag 1 (is_nested max_levels f.data_type)) fs) }
+// One byte for each of the columns that stand one behind the other at a place.
+fn write_nested(sheet: &[u8], at: usize, answer: &mut [u8])
+    ensures { (fs : List (Field max_levels)) → length fs ≡ length answer.old → Every (λ f. LaidOut max_levels f.data_type) fs → Stands sheet.now at (each column_bytes fs) → answer.new ≡ map (λ f. flag 1 (is_nested max_levels f.data_type)) fs }
 {
     let mut place = at;
-    let mut i = 0;
-    while i < count {
+    for byte in answer {
         let data_type = walk::skip_head(sheet, place);
-        answer[i] = yes_no(walk::is_nested(sheet, data_type, Cursor::LEVELS));
+        *byte = u8::from(walk::is_nested(sheet, data_type, Cursor::LEVELS));
         place = walk::skip_type(sheet, data_type, Cursor::LEVELS);
-        i += 1;
     }
 }
 
@@ -194,7 +178,7 @@ fn answer_nested(sheet: &[u8], answer: &mut [u8]) -> Outcome
     if answer.len() < columns.count {
         return Outcome::refused(Outcome::ANSWER_BUFFER_SHORT, 0);
     }
-    write_nested(sheet, columns.at, columns.count, answer);
+    write_nested(sheet, columns.at, &mut answer[..columns.count]);
     Outcome::accepted(columns.count)
 }
 

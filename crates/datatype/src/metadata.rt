@@ -108,14 +108,12 @@ pub fn get_is(s: &[u8], at: usize, count: usize, t: &[u8], key: usize) -> bool
 {
     let value = walk::skip_text(t, key);
     let mut place = at;
-    let mut left = count;
-    while 0 < left {
+    for _ in 0..count {
         let own = walk::skip_text(s, place);
         if same_text(s, place, t, key) {
             return same_text(s, own, t, value);
         }
         place = walk::skip_text(s, own);
-        left -= 1;
     }
     false
 }
@@ -124,16 +122,12 @@ pub fn get_is(s: &[u8], at: usize, count: usize, t: &[u8], key: usize) -> bool
 pub fn contains_metadata(s: &[u8], all: Pairs, t: &[u8], asked: Pairs) -> bool
     ensures { (m other : Metadata) → PairsAt s.now m all.count all.at → PairsAt t.now other asked.count asked.at → result ≡ contains_metadata m other }
 {
-    let at = all.at;
-    let count = all.count;
     let mut place = asked.at;
-    let mut left = asked.count;
-    while 0 < left {
-        if !get_is(s, at, count, t, place) {
+    for _ in 0..asked.count {
+        if !get_is(s, all.at, all.count, t, place) {
             return false;
         }
         place = walk::skip_text(t, walk::skip_text(t, place));
-        left -= 1;
     }
     true
 }
