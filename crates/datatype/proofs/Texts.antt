@@ -3,10 +3,11 @@ use Prim.Native.Nat.{ℕ, ◌+◌, ◌-◌, ◌/◌, ◌%◌, ◌<◌, ◌≤◌
 use native.Mathlib.Omega.{arith}
 use mathlib.Core.Path.{◌≡◌, refl, sym, ap, ◌∙◌}
 use mathlib.Core.List.{[], ◌∷◌, ◌++◌, append_assoc}
-use mathlib.Core.Bool.{Bool, true, false, ◌&&◌, false≢true}
+use mathlib.Core.Bool.{Bool, true, false, not, ◌&&◌, false≢true}
 use lib.ListN.{length, take, drop, get_or, length-append, take-append-drop}
 use lib.Dec.{eqb}
-use borrow.Author.Tests.{eq-eqb, ne_eqb}
+use lib.Seq.{take-append_seam}
+use borrow.Author.Tests.{eq-eqb, ne_eqb, eqb-true}
 use Rattle.model.specs.Bytes.{Bytes, Metadata, choose, all, same, same_bytes, get_is, flag, u16}
 use Rattle.model.specs.Tree.{Head, Schema}
 use Rattle.model.specs.Sheet.{head_map, front_bytes, each, part, stands, with_count, text_bytes, pair_bytes, head_bytes, sheet_bytes}
@@ -26,9 +27,6 @@ use Rattle.datatype.proofs.Seeks.{Seeks, seeks_begin, seeks_again, seeks_stop, s
 -- what `same_stretch` ensures
 abbrev pub Stretches : Bytes → ℕ → ℕ → Bytes → ℕ → ℕ → Bool → Type 0
 Stretches s a e t b f r = (x y : Bytes) → Stands s a x → Stands t b y → e ≡ a + length x → f ≡ b + length y → r ≡ same_bytes x y
-
-pub stretches_taken : {s t : Bytes} {a e b f : ℕ} {r : Bool} → r ≡ same_bytes (take (e - a) (drop a s)) (take (f - b) (drop b t)) → Stretches s a e t b f r
-stretches_taken {t = t} {b = b} {f = f} g x y p q h k = g ∙ ap (λ z. same_bytes z (take (f - b) (drop b t))) (taken p h) ∙ ap (same_bytes x) (taken q k)
 
 -- where some bytes stand before others, those others reach from behind the first to the end of both
 pub behind_first : {s : Bytes} {place first r : ℕ} (a b : Bytes) → Skips s place a first → Skips s place (a ++ b) r → Stands s place (a ++ b) → r ≡ first + length b
@@ -95,92 +93,82 @@ module _ {s t : Bytes} {a b map other : ℕ} (e : map ≡ get_or s a 0) (f : oth
 
 -- A name with its length, as a head has it
 
--- what `name_of` gives
-abbrev pub NameOf : Bytes → ℕ → Bytes → Type 0
-NameOf s a r = (h : Head) → Stands s a (head_bytes h) → r ≡ part text_bytes h.name
-
 module _ {s : Bytes} {a map from end : ℕ} (e : map ≡ get_or s a 0) (u : Ahead s a 1 from)
     (p : (x : Bytes) → stands x ≡ eqb (map / 4 % 2) 1 → Skips s from (part text_bytes x) end) where
-  name_ends : (h : Head) → Stands s a (head_bytes h) → (end ≡ from + length (part text_bytes h.name)) × Stands s from (part text_bytes h.name)
-  name_ends h st =
+  -- the name lies inside, between the two places
+  pub name_taken : (h : Head) → Stands s a (head_bytes h) → (from ≤ end) × (end ≤ length s) × (take (end - from) (drop from s) ≡ part text_bytes h.name)
+  name_taken h st =
       let w = first_stands (part text_bytes h.name) _ (rest_stands u h st) in
       let b = ap (λ m. eqb (m / 4 % 2) 1) (map_stands e h st) ∙ name_set h in
-      ((p h.name (sym b)).behind w, w)
-
-  pub name_before : {r : Bytes} → end < from → NameOf s a r
-  name_before k h st = absurd (omega (arith, k, (name_ends h st).0))
-
-  pub name_past : {r : Bytes} → length s < end → NameOf s a r
-  name_past k h st = let (i, w) = name_ends h st in absurd (omega (arith, k, i, w.inside))
-
-  pub name_taken : NameOf s a (take (end - from) (drop from s))
-  name_taken h st = let (i, w) = name_ends h st in taken w i
+      let i = (p h.name (sym b)).behind w in
+      (omega (arith, i), omega (arith, i, w.inside), taken w i)
 
 -- what `has_name` ensures
 abbrev pub HasName : Bytes → ℕ → Bytes → Bool → Type 0
 HasName s a name r = (h : Head) (n : Bytes) → Stands s a (head_bytes h) → name ≡ part text_bytes n → r ≡ same_bytes h.name n
 
-both_named : (bit : ℕ) (name : Bytes) → (length name ≡ 0 → ⊥) → (bit ≡ 0 → ⊥) → (x n : Bytes) → bit ≡ flag 1 (stands x) → name ≡ part text_bytes n → stands x ≡ stands n
-both_named bit name k z [] n b i = absurd (z b)
+some_name : (name : Bytes) → false ≡ eqb (length name) 0 → length name ≡ 0 → ⊥
+some_name name k z = false≢true (k ∙ eq-eqb (length name) 0 z)
+
+both_named : (bit : ℕ) (name : Bytes) → (length name ≡ 0 → ⊥) → bit ≡ 1 → (x n : Bytes) → bit ≡ flag 1 (stands x) → name ≡ part text_bytes n → stands x ≡ stands n
+both_named bit name k z [] n b i = absurd (omega (arith, b, z))
 both_named bit name k z (c ∷ x) [] b i = absurd (k (ap length i))
 both_named bit name k z (c ∷ x) (d ∷ n) b i = refl
 
-module _ {s : Bytes} {a : ℕ} {name : Bytes} where
-  -- there is no room for the name
-  pub name_long : length s ≤ a + length name → HasName s a name false
-  unfolding front_bytes
-  name_long k h n st i =
-      not_true _ λ j. omega (
-        arith,
-        k,
-        (front_stands h st).inside,
-        ap length i,
-        ap (λ z. length (part text_bytes z)) (same_bytes_eq h.name n j),
-        length-append (part text_bytes h.name) (part (with_count pair_bytes) h.metadata),
-      )
+module _ {s : Bytes} {a map : ℕ} {name : Bytes} (e : map ≡ get_or s a 0) where
+  pub name_empty : true ≡ eqb (length name) 0 → HasName s a name (not (eqb (map / 4 % 2) 1))
+  unfolding same text_bytes u16
+  name_empty z h n st i = go h.name n (name_bit_is e h st) (ap length i)
+    where
+      go : (x n : Bytes) → map / 4 % 2 ≡ flag 1 (stands x) → length name ≡ length (part text_bytes n) → not (eqb (map / 4 % 2) 1) ≡ same_bytes x n
+      go x (d ∷ n) b i = absurd (omega (arith, eqb-true (length name) 0 (sym z), i))
+      go [] [] b i = ap not (ne_eqb (map / 4 % 2) 1 λ j. omega (arith, j, b))
+      go (c ∷ x) [] b i = ap not (eq-eqb (map / 4 % 2) 1 b)
 
-  module _ {map : ℕ} (e : map ≡ get_or s a 0) where
-    pub name_empty : length name ≡ 0 → HasName s a name (eqb (map / 4 % 2) 0)
-    unfolding same text_bytes u16
-    name_empty z h n st i = go h.name n (name_bit_is e h st) (ap length i)
+  module _ (k : false ≡ eqb (length name) 0) where
+    pub name_missing : (map / 4 % 2 ≡ 1 → ⊥) → HasName s a name false
+    unfolding same
+    name_missing z h n st i = go h.name n (name_bit_is e h st) i
       where
-        go : (x n : Bytes) → map / 4 % 2 ≡ flag 1 (stands x) → length name ≡ length (part text_bytes n) → eqb (map / 4 % 2) 0 ≡ same_bytes x n
-        go x (d ∷ n) b i = absurd (omega (arith, z, i))
-        go [] [] b i = eq-eqb (map / 4 % 2) 0 b
-        go (c ∷ x) [] b i = ne_eqb (map / 4 % 2) 0 λ j. omega (arith, j, b)
+        go : (x n : Bytes) → map / 4 % 2 ≡ flag 1 (stands x) → name ≡ part text_bytes n → false ≡ same_bytes x n
+        go [] [] b i = absurd (some_name name k (ap length i))
+        go [] (d ∷ n) b i = refl
+        go (c ∷ x) n b i = absurd (z b)
 
-    module _ (k : length name ≡ 0 → ⊥) where
-      pub name_missing : map / 4 % 2 ≡ 0 → HasName s a name false
-      unfolding same
-      name_missing z h n st i = go h.name n (name_bit_is e h st) i
-        where
-          go : (x n : Bytes) → map / 4 % 2 ≡ flag 1 (stands x) → name ≡ part text_bytes n → false ≡ same_bytes x n
-          go [] [] b i = absurd (k (ap length i))
-          go [] (d ∷ n) b i = refl
-          go (c ∷ x) n b i = absurd (omega (arith, z, b))
+    module _ {from : ℕ} (u : Ahead s a 1 from) (z : map / 4 % 2 ≡ 1) where
+      -- there is no room for the name
+      pub name_long : length s < from + length name → HasName s a name false
+      name_long l h n st i =
+          let rest = rest_stands u h st in
+          not_true _ λ j. omega (
+            arith,
+            l,
+            rest.inside,
+            ap length i,
+            ap (λ z. length (part text_bytes z)) (same_bytes_eq h.name n j),
+            length-append (part text_bytes h.name) (part (with_count pair_bytes) h.metadata),
+          )
 
       -- the name and what follows it begin with the other name just if the two are equal
-      pub name_compared : (end : ℕ) {r : Bool} → (map / 4 % 2 ≡ 0 → ⊥) → a + 1 + length name ≡ end → end ≤ length s → r ≡ same_bytes (take (end - (a + 1)) (drop (a + 1) s)) name → HasName s a name r
-      name_compared end {r} z j l v h n st i = v ∙ by_truth (same_bytes T name) (same_bytes h.name n) there back
+      pub name_compared : {own : Bytes} {r : Bool} → r ≡ same_bytes own name → own ≡ take (length name) (drop from s) → HasName s a name r
+      name_compared {own} v o h n st i = v ∙ by_truth (same_bytes own name) (same_bytes h.name n) there back
         where
-          T : Bytes
-          T = take (end - (a + 1)) (drop (a + 1) s)
+          rest : Stands s from (rest_of h)
+          rest = rest_stands u h st
 
-          rest : Stands s (a + 1) (rest_of h)
-          rest = rest_stands (omega arith, λ y. refl) h st
-
-          there : same_bytes T name ≡ true → same_bytes h.name n ≡ true
+          there : same_bytes own name ≡ true → same_bytes h.name n ≡ true
           there q =
-              let split = name_split h.name n _ (drop (end - (a + 1)) (drop (a + 1) s)) (both_named (map / 4 % 2) name k z h.name n (name_bit_is e h st) i)
-              (sym (append_assoc (part text_bytes h.name) _ _) ∙ sym rest.bytes ∙ sym (take-append-drop (end - (a + 1)) (drop (a + 1) s))
-              ∙ ap (λ z. z ++ drop (end - (a + 1)) (drop (a + 1) s)) (same_bytes_eq T name q ∙ i)) in
+              let split = name_split h.name n _ (drop (length name) (drop from s)) (both_named (map / 4 % 2) name (some_name name k) z h.name n (name_bit_is e h st) i)
+              (sym (append_assoc (part text_bytes h.name) _ _) ∙ sym rest.bytes ∙ sym (take-append-drop (length name) (drop from s))
+              ∙ ap (λ z. z ++ drop (length name) (drop from s)) (sym o ∙ same_bytes_eq own name q ∙ i)) in
               ap (λ z. same_bytes z n) split.0 ∙ same_bytes_refl n
 
-          back : same_bytes h.name n ≡ true → same_bytes T name ≡ true
+          back : same_bytes h.name n ≡ true → same_bytes own name ≡ true
           back q =
-              let o : name ≡ part text_bytes h.name = i ∙ ap (part text_bytes) (sym (same_bytes_eq h.name n q)) in
+              let p : name ≡ part text_bytes h.name = i ∙ ap (part text_bytes) (sym (same_bytes_eq h.name n q)) in
               let w = first_stands (part text_bytes h.name) _ rest in
-              ap (λ z. same_bytes z name) (taken w (sym j ∙ ap (λ z. a + 1 + length z) o) ∙ sym o) ∙ same_bytes_refl name
+              let t = ap (λ z. take (length z) (drop from s)) p ∙ ap (take (length (part text_bytes h.name))) w.bytes ∙ take-append_seam (part text_bytes h.name) _ in
+              ap (λ z. same_bytes z name) (o ∙ t ∙ sym p) ∙ same_bytes_refl name
 
 -- Metadata under a bit
 

@@ -19,19 +19,10 @@ pub struct Pairs {
 pub fn same_stretch(s: &[u8], a: usize, e: usize, t: &[u8], b: usize, f: usize) -> bool
     ensures { (x y : Bytes) → Stands s.now a x → Stands t.now b y → e ≡ a + length x → f ≡ b + length y → result ≡ same_bytes x y }
 {
-    if e < a {
+    let (Some(own), Some(other)) = (s.get(a..e), t.get(b..f)) else {
         return false;
-    }
-    if s.len() < e {
-        return false;
-    }
-    if f < b {
-        return false;
-    }
-    if t.len() < f {
-        return false;
-    }
-    text::same(&s[a..e], &t[b..f])
+    };
+    text::same(own, other)
 }
 
 // Whether two texts are equal: their bytes without the lengths.
@@ -71,13 +62,7 @@ pub fn name_of<'a>(s: &'a [u8], at: usize) -> &'a [u8]
     let map = walk::byte(s, at);
     let from = walk::ahead(s, at, 1);
     let end = walk::skip_text_if(s, from, map / 4 % 2 == 1);
-    if end < from {
-        return &s[0..0];
-    }
-    if s.len() < end {
-        return &s[0..0];
-    }
-    &s[from..end]
+    s.get(from..end).unwrap_or(&[])
 }
 
 // Whether a field has a name, which is given as `name_of` gives one. So one name can be compared with many; since the length is compared
@@ -85,21 +70,18 @@ pub fn name_of<'a>(s: &'a [u8], at: usize) -> &'a [u8]
 pub fn has_name(s: &[u8], at: usize, name: &[u8]) -> bool
     ensures { (h : Head) (n : Bytes) → Stands s.now at (head_bytes h) → name.now ≡ part text_bytes n → result ≡ same_bytes h.name n }
 {
-    if s.len() <= at {
+    let named = walk::byte(s, at) / 4 % 2 == 1;
+    if name.is_empty() {
+        return !named;
+    }
+    if !named {
         return false;
     }
-    if s.len() - at <= name.len() {
+    let from = walk::ahead(s, at, 1);
+    let Some(own) = s.get(from..from + name.len()) else {
         return false;
-    }
-    let bit = walk::byte(s, at) / 4 % 2;
-    if name.len() == 0 {
-        return bit == 0;
-    }
-    if bit == 0 {
-        return false;
-    }
-    let from = at + 1;
-    text::same(&s[from..from + name.len()], name)
+    };
+    text::same(own, name)
 }
 
 // `Metadata::get(key).is_some_and(|v| v == value)`, for the key and the value that stand at a place: the first pair with that key decides.
