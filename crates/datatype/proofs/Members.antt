@@ -9,7 +9,7 @@ use Rattle.model.specs.Tree.{Field}
 use Rattle.model.specs.Sheet.{each}
 use Rattle.model.specs.WellFormed.{Child}
 use Rattle.model.proofs.Whole.{whole_laid_out}
-use Rattle.layout.specs.Kinds.{children_by}
+use Rattle.model.specs.Tree.Children.{counted_with_ids}
 use Rattle.walk.specs.Stands.{Stands}
 use Rattle.datatype.specs.declared.compare.Comparison.{Comparison}
 use Rattle.datatype.specs.Children.{child_bytes}
@@ -20,10 +20,10 @@ use Rattle.datatype.proofs.Children.{Pairs, EveryOne}
 
 -- a union's child that can be gone over, and its bytes
 abbrev UnionChild : (l : ℕ) → Field l → Type 0
-UnionChild l k = Child l (children_by 5) k
+UnionChild l k = Child l counted_with_ids k
 
 abbrev union_child_bytes : (l : ℕ) → Field l → Bytes
-union_child_bytes l k = child_bytes l (children_by 5) k
+union_child_bytes l k = child_bytes l counted_with_ids k
 
 -- One that agrees: those behind the i passed decide
 
@@ -41,8 +41,8 @@ module _ (how : Comparison) (s t : Bytes) (levels : ℕ) where
   one_begin a b count l j h w st = seeks_begin (UnionChild l) (union_child_bytes l) t _ b count
 
   module _ {a b count place i : ℕ} (k : One how s a t b count levels place i) where
-    module _ (h : i < count) {r : Bool} (c : Pairs how s a t place (children_by 5) levels r) where
-      pub one_again : {p : ℕ} → r ≡ false → Behind t place (children_by 5) levels p → One how s a t b count levels p (i + 1)
+    module _ (h : i < count) {r : Bool} (c : Pairs how s a t place counted_with_ids levels r) where
+      pub one_again : {p : ℕ} → r ≡ false → Behind t place counted_with_ids levels p → One how s a t b count levels p (i + 1)
       unfolding any
       one_again e f l j m w st =
           seeks_again (UnionChild l) (union_child_bytes l) t (k l j m w st) h (λ x v. f l x m (whole_laid_out l x.data_type v.1)) λ x xs v u.
@@ -69,7 +69,7 @@ module _ (how : Comparison) (s t : Bytes) (levels : ℕ) where
 
   module _ {a n b m place i : ℕ} (k : EachOne how s a n t b m levels place i) where
     module _ (h : i < n) {r : Bool} (c : HasOne how s place t b m levels r) where
-      pub each_again : {p : ℕ} → r ≡ true → Behind s place (children_by 5) levels p → EachOne how s a n t b m levels p (i + 1)
+      pub each_again : {p : ℕ} → r ≡ true → Behind s place counted_with_ids levels p → EachOne how s a n t b m levels p (i + 1)
       unfolding all
       each_again e f l ks z q w st =
           seeks_again (UnionChild l) (union_child_bytes l) s (k l ks z q w st) h (λ x v. f l x z (whole_laid_out l x.data_type v.1)) λ x xs v u.

@@ -1,5 +1,5 @@
 -- Stretches of bytes, texts, names and metadata, where they stand.
-use Prim.Native.Nat.{ℕ, ◌+◌, ◌-◌, ◌/◌, ◌%◌, ◌<◌, ◌≤◌}
+use Prim.Native.Nat.{ℕ, ◌+◌, ◌-◌, ◌<◌, ◌≤◌}
 use native.Mathlib.Omega.{arith}
 use mathlib.Core.Path.{◌≡◌, refl, sym, ap, ◌∙◌}
 use mathlib.Core.List.{[], ◌∷◌, ◌++◌, append_assoc}
@@ -7,18 +7,18 @@ use mathlib.Core.Bool.{Bool, true, false, not, ◌&&◌, false≢true}
 use lib.ListN.{length, take, drop, get_or, length-append, take-append-drop}
 use lib.Dec.{eqb}
 use lib.Seq.{take-append_seam}
-use borrow.Author.Tests.{eq-eqb, ne_eqb, eqb-true}
-use Rattle.model.specs.Bytes.{Bytes, Metadata, choose, all, same, same_bytes, get_is, flag, u16}
+use borrow.Author.Tests.{eq-eqb, eqb-true}
+use Rattle.model.specs.Bytes.{Bytes, Metadata, choose, all, same, same_bytes, get_is, bit, u16}
 use Rattle.model.specs.Tree.{Head, Schema}
 use Rattle.model.specs.Sheet.{head_map, front_bytes, each, part, stands, with_count, text_bytes, pair_bytes, head_bytes, sheet_bytes}
 use Rattle.model.specs.Datatype.{contains_metadata}
 use Rattle.model.proofs.ByteStrings.{same_bytes_eq, same_bytes_refl}
 use Rattle.model.proofs.SameBytes.{by_truth, not_true, name_split}
 use Rattle.model.proofs.Lists.{every_unit}
-use Rattle.model.proofs.MapBits.{name_bit, name_set, metadata_set}
+use Rattle.model.proofs.MapBits.{name_set, metadata_set}
 use Rattle.walk.specs.Stands.{Stands, Skips}
 use Rattle.walk.proofs.Standing.{first_stands, byte_stands, stands_behind, taken, skip_ahead, skip_join, skip_self}
-use Rattle.walk.proofs.Parts.{Ahead, two_at, front_stands, map_stands, sheet_metadata_bit}
+use Rattle.walk.proofs.Parts.{Ahead, two_at, part_if, front_stands, map_stands, sheet_metadata_set}
 use Rattle.walk.proofs.Descents.{count_stands, elements_stand}
 use Rattle.datatype.specs.Comparisons.{PairsAt}
 use Rattle.datatype.proofs.Encodings.{rest_of}
@@ -65,43 +65,66 @@ unfolding front_bytes
 rest_stands u h st = stands_behind (skip_ahead (head_map h ∷ []) refl u.1) (front_stands h st)
 
 -- the bit of the name
-name_bit_is : {s : Bytes} {a map : ℕ} → map ≡ get_or s a 0 → (h : Head) → Stands s a (head_bytes h) → map / 4 % 2 ≡ flag 1 (stands h.name)
-name_bit_is e h st = ap (λ m. m / 4 % 2) (map_stands e h st) ∙ name_bit h
+name_bit_is : {s : Bytes} {a map : ℕ} {n : Bool} → map ≡ get_or s a 0 → n ≡ bit 2 map → (h : Head) → Stands s a (head_bytes h) → n ≡ stands h.name
+unfolding bit
+name_bit_is e i h st = i ∙ ap (bit 2) (map_stands e h st) ∙ name_set h
 
-module _ {s t : Bytes} {a b map other : ℕ} (e : map ≡ get_or s a 0) (f : other ≡ get_or t b 0) where
-  pub names_bits : (map / 4 % 2 ≡ other / 4 % 2 → ⊥) → Heads same_name s a t b false
-  names_bits d h g st st' = not_true _ λ i. d (name_bit_is e h st ∙ ap (λ n. flag 1 (stands n)) (same_bytes_eq h.name g.name i) ∙ sym (name_bit_is f g st'))
+module _ {s t : Bytes} {a b map other : ℕ} {n m : Bool} (e : map ≡ get_or s a 0) (i : n ≡ bit 2 map) (f : other ≡ get_or t b 0) (j : m ≡ bit 2 other) where
+  pub names_bits : (n ≡ m → ⊥) → Heads same_name s a t b false
+  names_bits d h g st st' = not_true _ λ k. d (name_bit_is e i h st ∙ ap stands (same_bytes_eq h.name g.name k) ∙ sym (name_bit_is f j g st'))
 
-  module _ (i : map / 4 % 2 ≡ other / 4 % 2) where
-    pub names_none : map / 4 % 2 ≡ 0 → Heads same_name s a t b true
+  module _ (q : n ≡ m) where
+    pub names_none : n ≡ false → Heads same_name s a t b true
     unfolding same
-    names_none z h g st st' = go h.name g.name (name_bit_is e h st) (name_bit_is f g st')
+    names_none z h g st st' = go h.name g.name (sym (name_bit_is e i h st) ∙ z) (sym (name_bit_is f j g st') ∙ sym q ∙ z)
       where
-        go : (x y : Bytes) → map / 4 % 2 ≡ flag 1 (stands x) → other / 4 % 2 ≡ flag 1 (stands y) → true ≡ same_bytes x y
-        go [] [] m n = refl
-        go [] (d ∷ y) m n = absurd (omega (arith, i, z, n))
-        go (c ∷ x) y m n = absurd (omega (arith, m, z))
+        go : (x y : Bytes) → stands x ≡ false → stands y ≡ false → true ≡ same_bytes x y
+        go [] [] k l = refl
+        go [] (d ∷ y) k l = absurd (false≢true (sym l))
+        go (c ∷ x) y k l = absurd (false≢true (sym k))
 
-    pub names_texts : {p q : ℕ} {r : Bool} → (map / 4 % 2 ≡ 0 → ⊥) → Ahead s a 1 p → Ahead t b 1 q → Texts s p t q r → Heads same_name s a t b r
-    names_texts {p} {q} {r} z u v c h g st st' = go h.name g.name (name_bit_is e h st) (name_bit_is f g st') (rest_stands u h st) (rest_stands v g st')
+    pub names_texts : {p o : ℕ} {r : Bool} → n ≡ true → Ahead s a 1 p → Ahead t b 1 o → Texts s p t o r → Heads same_name s a t b r
+    names_texts {p} {o} {r} z u v c h g st st' = go h.name g.name (sym (name_bit_is e i h st) ∙ z) (sym (name_bit_is f j g st') ∙ sym q ∙ z) (rest_stands u h st) (rest_stands v g st')
       where
-        go : (x y : Bytes) → map / 4 % 2 ≡ flag 1 (stands x) → other / 4 % 2 ≡ flag 1 (stands y)
-            → Stands s p (part text_bytes x ++ part (with_count pair_bytes) h.metadata) → Stands t q (part text_bytes y ++ part (with_count pair_bytes) g.metadata) → r ≡ same_bytes x y
-        go [] y m n w w' = absurd (z m)
-        go (d ∷ x) [] m n w w' = absurd (z (i ∙ n))
+        go : (x y : Bytes) → stands x ≡ true → stands y ≡ true
+            → Stands s p (part text_bytes x ++ part (with_count pair_bytes) h.metadata) → Stands t o (part text_bytes y ++ part (with_count pair_bytes) g.metadata) → r ≡ same_bytes x y
+        go [] y k l w w' = absurd (false≢true k)
+        go (d ∷ x) [] k l w w' = absurd (false≢true l)
         go (d ∷ x) (k ∷ y) m n w w' = c (d ∷ x) (k ∷ y) (first_stands (text_bytes (d ∷ x)) _ w) (first_stands (text_bytes (k ∷ y)) _ w')
+
+-- Metadata under a bit
+
+-- what `pairs_if` ensures
+abbrev PairsIf : Bytes → ℕ → Bool → ℕ → ℕ → Type 0
+PairsIf s place set n first = (m : Metadata) → stands m ≡ set → Stands s place (part (with_count pair_bytes) m) → PairsAt s m n first
+
+module _ {s : Bytes} {place : ℕ} where
+  pub pairs_some : {set : Bool} {n first : ℕ} → set ≡ true → n ≡ two_at s place → Ahead s place 2 first → PairsIf s place set n first
+  pairs_some e c u [] h st = absurd (false≢true (h ∙ e))
+  pairs_some e c u (p ∷ m) h st = record { count = sym (c ∙ count_stands pair_bytes (p ∷ m) st); stands = elements_stand pair_bytes (p ∷ m) u st }
+
+  pub pairs_none : {set : Bool} → set ≡ false → PairsIf s place set 0 place
+  pairs_none e [] h st = record { count = refl; stands = st }
+  pairs_none e (p ∷ m) h st = absurd (false≢true (sym e ∙ sym h))
 
 -- A name with its length, as a head has it
 
-module _ {s : Bytes} {a map from end : ℕ} (e : map ≡ get_or s a 0) (u : Ahead s a 1 from)
-    (p : (x : Bytes) → stands x ≡ eqb (map / 4 % 2) 1 → Skips s from (part text_bytes x) end) where
+module _ {s : Bytes} {a map from end : ℕ} {n : Bool} (e : map ≡ get_or s a 0) (u : Ahead s a 1 from) (i : n ≡ bit 2 map)
+    (f : n ≡ true → (x : Bytes) → Skips s from (text_bytes x) end) (g : n ≡ false → end ≡ from) where
+  name_skips : (h : Head) → Stands s a (head_bytes h) → Skips s from (part text_bytes h.name) end
+  name_skips h st = part_if text_bytes n f g h.name (sym (name_bit_is e i h st))
+
   -- the name lies inside, between the two places
   pub name_taken : (h : Head) → Stands s a (head_bytes h) → (from ≤ end) × (end ≤ length s) × (take (end - from) (drop from s) ≡ part text_bytes h.name)
   name_taken h st =
       let w = first_stands (part text_bytes h.name) _ (rest_stands u h st) in
-      let b = ap (λ m. eqb (m / 4 % 2) 1) (map_stands e h st) ∙ name_set h in
-      let i = (p h.name (sym b)).behind w in
-      (omega (arith, i), omega (arith, i, w.inside), taken w i)
+      let k = (name_skips h st).behind w in
+      (omega (arith, k), omega (arith, k, w.inside), taken w k)
+
+  -- the metadata stands behind it
+  pub head_pairs : {m : Bool} {count at : ℕ} → m ≡ bit 3 map → PairsIf s end m count at → (h : Head) → Stands s a (head_bytes h) → PairsAt s h.metadata count at
+  unfolding bit
+  head_pairs j q h st = q h.metadata (sym (j ∙ ap (bit 3) (map_stands e h st) ∙ metadata_set h)) (stands_behind (name_skips h st) (rest_stands u h st))
 
 -- what `has_name` ensures
 abbrev pub HasName : Bytes → ℕ → Bytes → Bool → Type 0
@@ -110,32 +133,31 @@ HasName s a name r = (h : Head) (n : Bytes) → Stands s a (head_bytes h) → na
 some_name : (name : Bytes) → false ≡ eqb (length name) 0 → length name ≡ 0 → ⊥
 some_name name k z = false≢true (k ∙ eq-eqb (length name) 0 z)
 
-both_named : (bit : ℕ) (name : Bytes) → (length name ≡ 0 → ⊥) → bit ≡ 1 → (x n : Bytes) → bit ≡ flag 1 (stands x) → name ≡ part text_bytes n → stands x ≡ stands n
-both_named bit name k z [] n b i = absurd (omega (arith, b, z))
-both_named bit name k z (c ∷ x) [] b i = absurd (k (ap length i))
-both_named bit name k z (c ∷ x) (d ∷ n) b i = refl
+both_named : (name : Bytes) → (length name ≡ 0 → ⊥) → (x n : Bytes) → stands x ≡ true → name ≡ part text_bytes n → stands x ≡ stands n
+both_named name k x [] b i = absurd (k (ap length i))
+both_named name k x (d ∷ n) b i = b
 
-module _ {s : Bytes} {a map : ℕ} {name : Bytes} (e : map ≡ get_or s a 0) where
-  pub name_empty : true ≡ eqb (length name) 0 → HasName s a name (not (eqb (map / 4 % 2) 1))
+module _ {s : Bytes} {a map : ℕ} {name : Bytes} {named : Bool} (e : map ≡ get_or s a 0) (b : named ≡ bit 2 map) where
+  pub name_empty : true ≡ eqb (length name) 0 → HasName s a name (not named)
   unfolding same text_bytes u16
-  name_empty z h n st i = go h.name n (name_bit_is e h st) (ap length i)
+  name_empty z h n st i = go h.name n (name_bit_is e b h st) (ap length i)
     where
-      go : (x n : Bytes) → map / 4 % 2 ≡ flag 1 (stands x) → length name ≡ length (part text_bytes n) → not (eqb (map / 4 % 2) 1) ≡ same_bytes x n
+      go : (x n : Bytes) → named ≡ stands x → length name ≡ length (part text_bytes n) → not named ≡ same_bytes x n
       go x (d ∷ n) b i = absurd (omega (arith, eqb-true (length name) 0 (sym z), i))
-      go [] [] b i = ap not (ne_eqb (map / 4 % 2) 1 λ j. omega (arith, j, b))
-      go (c ∷ x) [] b i = ap not (eq-eqb (map / 4 % 2) 1 b)
+      go [] [] b i = ap not b
+      go (c ∷ x) [] b i = ap not b
 
   module _ (k : false ≡ eqb (length name) 0) where
-    pub name_missing : (map / 4 % 2 ≡ 1 → ⊥) → HasName s a name false
+    pub name_missing : named ≡ false → HasName s a name false
     unfolding same
-    name_missing z h n st i = go h.name n (name_bit_is e h st) i
+    name_missing z h n st i = go h.name n (sym (name_bit_is e b h st) ∙ z) i
       where
-        go : (x n : Bytes) → map / 4 % 2 ≡ flag 1 (stands x) → name ≡ part text_bytes n → false ≡ same_bytes x n
+        go : (x n : Bytes) → stands x ≡ false → name ≡ part text_bytes n → false ≡ same_bytes x n
         go [] [] b i = absurd (some_name name k (ap length i))
         go [] (d ∷ n) b i = refl
-        go (c ∷ x) n b i = absurd (z b)
+        go (c ∷ x) n b i = absurd (false≢true (sym b))
 
-    module _ {from : ℕ} (u : Ahead s a 1 from) (z : map / 4 % 2 ≡ 1) where
+    module _ {from : ℕ} (u : Ahead s a 1 from) (z : named ≡ true) where
       -- there is no room for the name
       pub name_long : length s < from + length name → HasName s a name false
       name_long l h n st i =
@@ -158,7 +180,7 @@ module _ {s : Bytes} {a map : ℕ} {name : Bytes} (e : map ≡ get_or s a 0) whe
 
           there : same_bytes own name ≡ true → same_bytes h.name n ≡ true
           there q =
-              let split = name_split h.name n _ (drop (length name) (drop from s)) (both_named (map / 4 % 2) name (some_name name k) z h.name n (name_bit_is e h st) i)
+              let split = name_split h.name n _ (drop (length name) (drop from s)) (both_named name (some_name name k) h.name n (sym (name_bit_is e b h st) ∙ z) i)
               (sym (append_assoc (part text_bytes h.name) _ _) ∙ sym rest.bytes ∙ sym (take-append-drop (length name) (drop from s))
               ∙ ap (λ z. z ++ drop (length name) (drop from s)) (sym o ∙ same_bytes_eq own name q ∙ i)) in
               ap (λ z. same_bytes z n) split.0 ∙ same_bytes_refl n
@@ -170,34 +192,13 @@ module _ {s : Bytes} {a map : ℕ} {name : Bytes} (e : map ≡ get_or s a 0) whe
               let t = ap (λ z. take (length z) (drop from s)) p ∙ ap (take (length (part text_bytes h.name))) w.bytes ∙ take-append_seam (part text_bytes h.name) _ in
               ap (λ z. same_bytes z name) (o ∙ t ∙ sym p) ∙ same_bytes_refl name
 
--- Metadata under a bit
+-- The metadata of a sheet
 
--- what `pairs_if` ensures
-abbrev PairsIf : Bytes → ℕ → Bool → ℕ → ℕ → Type 0
-PairsIf s place set n first = (m : Metadata) → stands m ≡ set → Stands s place (part (with_count pair_bytes) m) → PairsAt s m n first
-
-module _ {s : Bytes} {place : ℕ} where
-  pub pairs_some : {set : Bool} {n first : ℕ} → set ≡ true → n ≡ two_at s place → Ahead s place 2 first → PairsIf s place set n first
-  pairs_some e c u [] h st = absurd (false≢true (h ∙ e))
-  pairs_some e c u (p ∷ m) h st = record { count = sym (c ∙ count_stands pair_bytes (p ∷ m) st); stands = elements_stand pair_bytes (p ∷ m) u st }
-
-  pub pairs_none : {set : Bool} → set ≡ false → PairsIf s place set 0 place
-  pairs_none e [] h st = record { count = refl; stands = st }
-  pairs_none e (p ∷ m) h st = absurd (false≢true (sym e ∙ sym h))
-
-pub head_pairs : {s : Bytes} {place map name first n at : ℕ} → map ≡ get_or s place 0 → Ahead s place 1 name
-    → ((x : Bytes) → stands x ≡ eqb (map / 4 % 2) 1 → Skips s name (part text_bytes x) first) → PairsIf s first (eqb (map / 8 % 2) 1) n at
-    → (h : Head) → Stands s place (head_bytes h) → PairsAt s h.metadata n at
-head_pairs {map = map} e u p q h st =
-    let w = map_stands e h st in
-    q h.metadata (sym (ap (λ m. eqb (m / 8 % 2) 1) w ∙ metadata_set h))
-    (stands_behind (p h.name (sym (ap (λ m. eqb (m / 4 % 2) 1) w ∙ name_set h))) (rest_stands u h st))
-
-pub sheet_pairs : {s : Bytes} {place map first n at : ℕ} → map ≡ get_or s place 0 → Ahead s place 1 first → PairsIf s first (eqb (map % 2) 1) n at
+pub sheet_pairs : {s : Bytes} {place map first n at : ℕ} {m : Bool} → map ≡ get_or s place 0 → Ahead s place 1 first → m ≡ bit 0 map → PairsIf s first m n at
     → (x : Schema) → Stands s place (sheet_bytes x) → PairsAt s x.metadata n at
 unfolding sheet_bytes
-sheet_pairs e u q x st =
-    q x.metadata (sym (ap (λ m. eqb (m % 2) 1) (e ∙ byte_stands st) ∙ sheet_metadata_bit (stands x.metadata) (stands x.columns)))
+sheet_pairs e u i q x st =
+    q x.metadata (sym (i ∙ ap (bit 0) (e ∙ byte_stands st) ∙ sheet_metadata_set (stands x.metadata) (stands x.columns)))
     (first_stands (part (with_count pair_bytes) x.metadata) _ (stands_behind (skip_ahead (_ ∷ []) refl u.1) st))
 
 -- Look-up by key

@@ -25,8 +25,10 @@ ghost use Rattle.datatype.specs.Comparisons.{compare_child, compare_schema, comp
 
 use buffer::Outcome;
 use compare::{Comparison, compare_field, compare_row, compare_type};
+use layout::ChildrenKind;
 use metadata::{contains_metadata, of_sheet};
 use sheet::{Cursor, Step};
+use walk::Elements;
 
 // Whether two types are equal, of at most so many levels.
 pub fn same_type(s: &[u8], a: usize, t: &[u8], b: usize, levels: usize) -> bool
@@ -42,19 +44,18 @@ pub fn same_field(s: &[u8], a: usize, t: &[u8], b: usize, levels: usize) -> bool
     compare_field(s, a, t, b, levels, Comparison::Equal)
 }
 
-// The position of the first of so many union children, one behind the other from a place on, at whose place a test says yes.
+// The position of the first of so many union children at whose place a test says yes.
 fn find_child<F: Fn(usize) -> bool>(
     s: &[u8],
-    at: usize,
-    count: usize,
+    members: Elements,
     levels: usize,
     matches: F,
 ) -> Option<usize>
     requires { F.IsAlwaysCallable matches }
-    ensures { (l : ℕ) (test : Field l → Bool) (ks : List (Field l)) → l ≤ levels → length ks ≡ count → Every (λ k. LaidOut l k.data_type × TestedBy (F.post matches) s.now l test k) ks → Stands s.now at (each (member_bytes l) ks) → result ≡ match_of (position test ks) }
+    ensures { (l : ℕ) (test : Field l → Bool) (ks : List (Field l)) → l ≤ levels → length ks ≡ members.count → Every (λ k. LaidOut l k.data_type × TestedBy (F.post matches) s.now l test k) ks → Stands s.now members.at (each (member_bytes l) ks) → result ≡ match_of (position test ks) }
 {
-    let mut place = at;
-    for i in 0..count {
+    let mut place = members.at;
+    for i in 0..members.count {
         if matches(place) {
             return Some(i);
         }
@@ -63,25 +64,24 @@ fn find_child<F: Fn(usize) -> bool>(
     None
 }
 
-// `UnionFields::find_by_type_id`: the first of so many union children, one behind the other from a place on, that has this id.
-pub fn find_by_type_id(s: &[u8], at: usize, count: usize, id: usize, levels: usize) -> Option<usize>
-    ensures { (l : ℕ) (ks : List (Field l)) → l ≤ levels → length ks ≡ count → Every (λ k. LaidOut l k.data_type) ks → Stands s.now at (each (member_bytes l) ks) → result ≡ match_of (find_by_type_id ks id) }
+// `UnionFields::find_by_type_id`: the first of so many union children that has this id.
+pub fn find_by_type_id(s: &[u8], members: Elements, id: usize, levels: usize) -> Option<usize>
+    ensures { (l : ℕ) (ks : List (Field l)) → l ≤ levels → length ks ≡ members.count → Every (λ k. LaidOut l k.data_type) ks → Stands s.now members.at (each (member_bytes l) ks) → result ≡ match_of (find_by_type_id ks id) }
 {
-    find_child(s, at, count, levels, |place| walk::byte(s, place) == id)
+    find_child(s, members, levels, |place| walk::byte(s, place) == id)
 }
 
 // `UnionFields::find_by_field`: the first of them whose field is equal to the one that stands at a place of another sheet.
 pub fn find_by_field(
     s: &[u8],
-    at: usize,
-    count: usize,
+    members: Elements,
     t: &[u8],
     field: usize,
     levels: usize,
 ) -> Option<usize>
-    ensures { (l : ℕ) (g : Field l) (ks : List (Field l)) → l ≤ levels → length ks ≡ count → Whole l g.data_type → Every (λ k. Whole l k.data_type) ks → Stands t.now field (field_bytes (type_bytes l) g) → Stands s.now at (each (member_bytes l) ks) → result ≡ match_of (find_by_field (same_type l) ks g) }
+    ensures { (l : ℕ) (g : Field l) (ks : List (Field l)) → l ≤ levels → length ks ≡ members.count → Whole l g.data_type → Every (λ k. Whole l k.data_type) ks → Stands t.now field (field_bytes (type_bytes l) g) → Stands s.now members.at (each (member_bytes l) ks) → result ≡ match_of (find_by_field (same_type l) ks g) }
 {
-    find_child(s, at, count, levels, |place| {
+    find_child(s, members, levels, |place| {
         same_field(s, walk::ahead(s, place, 1), t, field, levels)
     })
 }
@@ -90,13 +90,22 @@ pub fn find_by_field(
 fn compare_columns(s: &[u8], a: usize, t: &[u8], b: usize, how: Comparison) -> bool
     ensures { (x y : Schema) → Every (Child 32 counted) x.columns → Every (Child 32 counted) y.columns → Stands s.now a (sheet_bytes x) → Stands t.now b (sheet_bytes y) → result ≡ same (compare_child how 32) x.columns y.columns }
 {
-    let columns = walk::find_columns(s, a);
+    let own = walk::find_columns(s, a);
     let others = walk::find_columns(t, b);
-    let count = columns.count;
-    if count != others.count {
+    if own.count != others.count {
         return false;
     }
-    compare_row(s, columns.at, t, others.at, 4, count, Cursor::LEVELS, how)
+    let kind = ChildrenKind::Counted;
+    compare_row(
+        s,
+        own.at,
+        t,
+        others.at,
+        kind,
+        own.count,
+        Cursor::LEVELS,
+        how,
+    )
 }
 
 // Two sheets: "both equalities take each sheet as the Struct of its columns", `Schema::contains` compares schema metadata too.
@@ -107,8 +116,7 @@ fn compare_sheets(s: &[u8], t: &[u8], how: Comparison) -> bool
         return false;
     }
     match how {
-        Comparison::Equal => true,
-        Comparison::EqualsDatatype => true,
+        Comparison::Equal | Comparison::EqualsDatatype => true,
         Comparison::Contains => contains_metadata(s, of_sheet(s, 0), t, of_sheet(t, 0)),
     }
 }

@@ -8,12 +8,7 @@ ghost use Rattle.model.specs.Datatype.{contains_metadata};
 ghost use Rattle.walk.specs.Stands.{Stands};
 ghost use Rattle.datatype.specs.Comparisons.{PairsAt};
 
-// How many keys metadata has, and where the first stands.
-#[derive(Clone, Copy)]
-pub struct Pairs {
-    pub count: usize,
-    pub at: usize,
-}
+use walk::Elements;
 
 // Whether the bytes from one place to another are equal to those between two places of the other sheet.
 pub fn same_stretch(s: &[u8], a: usize, e: usize, t: &[u8], b: usize, f: usize) -> bool
@@ -45,11 +40,11 @@ pub fn same_text(s: &[u8], a: usize, t: &[u8], b: usize) -> bool
 pub fn same_name(s: &[u8], a: usize, t: &[u8], b: usize) -> bool
     ensures { (h g : Head) → Stands s.now a (head_bytes h) → Stands t.now b (head_bytes g) → result ≡ same_bytes h.name g.name }
 {
-    let named = walk::byte(s, a) / 4 % 2;
-    if named != walk::byte(t, b) / 4 % 2 {
+    let named = walk::bit(walk::byte(s, a), 2);
+    if named != walk::bit(walk::byte(t, b), 2) {
         return false;
     }
-    if named == 0 {
+    if !named {
         return true;
     }
     same_text(s, walk::ahead(s, a, 1), t, walk::ahead(t, b, 1))
@@ -61,7 +56,7 @@ pub fn name_of<'a>(s: &'a [u8], at: usize) -> &'a [u8]
 {
     let map = walk::byte(s, at);
     let from = walk::ahead(s, at, 1);
-    let end = walk::skip_text_if(s, from, map / 4 % 2 == 1);
+    let end = walk::skip_if(s, from, walk::bit(map, 2), walk::skip_text);
     s.get(from..end).unwrap_or(&[])
 }
 
@@ -70,7 +65,7 @@ pub fn name_of<'a>(s: &'a [u8], at: usize) -> &'a [u8]
 pub fn has_name(s: &[u8], at: usize, name: &[u8]) -> bool
     ensures { (h : Head) (n : Bytes) → Stands s.now at (head_bytes h) → name.now ≡ part text_bytes n → result ≡ same_bytes h.name n }
 {
-    let named = walk::byte(s, at) / 4 % 2 == 1;
+    let named = walk::bit(walk::byte(s, at), 2);
     if name.is_empty() {
         return !named;
     }
@@ -85,12 +80,12 @@ pub fn has_name(s: &[u8], at: usize, name: &[u8]) -> bool
 }
 
 // `Metadata::get(key).is_some_and(|v| v == value)`, for the key and the value that stand at a place: the first pair with that key decides.
-pub fn get_is(s: &[u8], at: usize, count: usize, t: &[u8], key: usize) -> bool
-    ensures { (p : Bytes × Bytes) (m : Metadata) → length m ≡ count → Stands t.now key (pair_bytes p) → Stands s.now at (each pair_bytes m) → result ≡ get_is m p.0 p.1 }
+pub fn get_is(s: &[u8], pairs: Elements, t: &[u8], key: usize) -> bool
+    ensures { (p : Bytes × Bytes) (m : Metadata) → length m ≡ pairs.count → Stands t.now key (pair_bytes p) → Stands s.now pairs.at (each pair_bytes m) → result ≡ get_is m p.0 p.1 }
 {
     let value = walk::skip_text(t, key);
-    let mut place = at;
-    for _ in 0..count {
+    let mut place = pairs.at;
+    for _ in 0..pairs.count {
         let own = walk::skip_text(s, place);
         if same_text(s, place, t, key) {
             return same_text(s, own, t, value);
@@ -101,12 +96,12 @@ pub fn get_is(s: &[u8], at: usize, count: usize, t: &[u8], key: usize) -> bool
 }
 
 // Whether the first has every key of the second, with the same value.
-pub fn contains_metadata(s: &[u8], all: Pairs, t: &[u8], asked: Pairs) -> bool
+pub fn contains_metadata(s: &[u8], all: Elements, t: &[u8], asked: Elements) -> bool
     ensures { (m other : Metadata) → PairsAt s.now m all.count all.at → PairsAt t.now other asked.count asked.at → result ≡ contains_metadata m other }
 {
     let mut place = asked.at;
     for _ in 0..asked.count {
-        if !get_is(s, all.at, all.count, t, place) {
+        if !get_is(s, all, t, place) {
             return false;
         }
         place = walk::skip_text(t, walk::skip_text(t, place));
@@ -115,33 +110,30 @@ pub fn contains_metadata(s: &[u8], all: Pairs, t: &[u8], asked: Pairs) -> bool
 }
 
 // Metadata under a bit of a map: nothing stands for none.
-fn pairs_if(s: &[u8], at: usize, set: bool) -> Pairs
+fn pairs_if(s: &[u8], at: usize, set: bool) -> Elements
     ensures { (m : Metadata) → stands m ≡ set → Stands s.now at (part (with_count pair_bytes) m) → PairsAt s.now m result.count result.at }
 {
     if set {
-        return Pairs {
-            count: walk::two(s, at),
-            at: walk::ahead(s, at, 2),
-        };
+        return Elements::counted(s, at);
     }
-    Pairs { count: 0, at: at }
+    Elements { count: 0, at }
 }
 
 // The metadata of a field.
-pub fn of_head(s: &[u8], at: usize) -> Pairs
+pub fn of_head(s: &[u8], at: usize) -> Elements
     ensures { (h : Head) → Stands s.now at (head_bytes h) → PairsAt s.now h.metadata result.count result.at }
 {
     let map = walk::byte(s, at);
     let name = walk::ahead(s, at, 1);
-    let place = walk::skip_text_if(s, name, map / 4 % 2 == 1);
-    pairs_if(s, place, map / 8 % 2 == 1)
+    let place = walk::skip_if(s, name, walk::bit(map, 2), walk::skip_text);
+    pairs_if(s, place, walk::bit(map, 3))
 }
 
 // The metadata of a sheet's schema.
-pub fn of_sheet(s: &[u8], at: usize) -> Pairs
+pub fn of_sheet(s: &[u8], at: usize) -> Elements
     ensures { (x : Schema) → Stands s.now at (sheet_bytes x) → PairsAt s.now x.metadata result.count result.at }
 {
     let map = walk::byte(s, at);
     let place = walk::ahead(s, at, 1);
-    pairs_if(s, place, map % 2 == 1)
+    pairs_if(s, place, walk::bit(map, 0))
 }
