@@ -25,7 +25,7 @@ pub handed_up : {A : Type 0} {x : Refusal} (r : Result A Refusal) → IsErrAnd r
 handed_up r h = let p = err_from_is_err_and r h in p.1 ∙ ap Err p.2
 
 -- a refusal leaves the answer buffer as it was
-pub leaves_refusal : {r : Result ℕ Refusal} (x : Refusal) (work answer : Bytes) → r ≡ Err x → leaves r answer work ≡ refusal (number_of x.number) x.place work answer
+pub leaves_refusal : {r : Result ℕ Refusal} (x : Refusal) (work answer : Bytes) → r ≡ Err x → leaves r answer work ≡ refusal (number_of x.0) x.1 work answer
 unfolding leaves refusal
 leaves_refusal x work answer e = ap (λ r. leaves r answer work) e
 
@@ -36,12 +36,12 @@ module _ {f : Result Unit Refusal} (b work answer : Bytes) (tested : numbered f 
   unfolding length_number choose acceptance
   acceptance_refused {r} {x} h e = leaves_refusal x work answer e ∙ go (ltb max_sheet_bytes (length b)) (ltb (length answer) (length b)) (sym (ap numbered h) ∙ tested)
     where
-      ends : (n p : ℕ) → ◌≡◌ {A = Result Unit (ℕ × ℕ)} (Err (number_of x.number, x.place)) (Err (n, p)) → refusal (number_of x.number) x.place work answer ≡ refusal n p work answer
-      ends n p q = let e : ◌≡◌ {A = ℕ × ℕ} (number_of x.number, x.place) (n, p) = cc in ap (λ (r : ℕ × ℕ). refusal r.0 r.1 work answer) e
+      ends : (n p : ℕ) → ◌≡◌ {A = Result Unit (ℕ × ℕ)} (Err (number_of x.0, x.1)) (Err (n, p)) → refusal (number_of x.0) x.1 work answer ≡ refusal n p work answer
+      ends n p q = let e : ◌≡◌ {A = ℕ × ℕ} (number_of x.0, x.1) (n, p) = cc in ap (λ (r : ℕ × ℕ). refusal r.0 r.1 work answer) e
 
       go : (t s : Bool)
-          → ◌≡◌ {A = Result Unit (ℕ × ℕ)} (Err (number_of x.number, x.place)) (unless_refused (choose t (λ u. answer_too_long) λ u. choose s (λ u. answer_buffer_short) λ u. accepted))
-          → refusal (number_of x.number) x.place work answer
+          → ◌≡◌ {A = Result Unit (ℕ × ℕ)} (Err (number_of x.0, x.1)) (unless_refused (choose t (λ u. answer_too_long) λ u. choose s (λ u. answer_buffer_short) λ u. accepted))
+          → refusal (number_of x.0) x.1 work answer
           ≡ choose t (λ u. refusal answer_too_long 0 work answer) λ u. choose s (λ u. refusal answer_buffer_short 0 work answer) λ u. record { number = accepted; place = 0; length = length b; answer = b ++ drop (length b) answer; work = work }
       go true s q = ends answer_too_long 0 q
       go false true q = ends answer_buffer_short 0 q
@@ -78,8 +78,8 @@ module _ (given : ℕ) (outcome : Answer) (work answer : Bytes) {room : Result U
   call_short {r} {x} h e = leaves_refusal x work answer e ∙ go (ltb (length work) (work_bytes_per_sheet_byte * given)) (sym h ∙ tested)
     where
       go : (t : Bool) → ◌≡◌ {A = Result Unit Refusal} (Err x) (unless_short t)
-          → refusal (number_of x.number) x.place work answer ≡ choose t (λ u. refusal work_buffer_short 0 work answer) λ u. settled outcome (zeros (length work)) answer
-      go true q = let e : x ≡ without_place Number.WorkBufferShort = cc in ap (λ x. refusal (number_of x.number) x.place work answer) e
+          → refusal (number_of x.0) x.1 work answer ≡ choose t (λ u. refusal work_buffer_short 0 work answer) λ u. settled outcome (zeros (length work)) answer
+      go true q = let e : x ≡ without_place Number.WorkBufferShort = cc in ap (λ x. refusal (number_of x.0) x.1 work answer) e
       go false q = cc
 
   pub call_settled : {x : Exit} → room ≡ Ok tt → x ≡ settled outcome (zeros (length work)) answer → x ≡ call given outcome work answer
@@ -91,7 +91,7 @@ module _ (given : ℕ) (outcome : Answer) (work answer : Bytes) {room : Result U
       go true q = cc
       go false q = e
 
-  pub call_refused : {r : Result ℕ Refusal} {after : Bytes} {x : Refusal} → room ≡ Ok tt → outcome ≡ refused (number_of x.number) x.place → r ≡ Err x → after ≡ zeros (length work)
+  pub call_refused : {r : Result ℕ Refusal} {after : Bytes} {x : Refusal} → room ≡ Ok tt → outcome ≡ refused (number_of x.0) x.1 → r ≡ Err x → after ≡ zeros (length work)
       → leaves r answer after ≡ call given outcome work answer
   unfolding settled
   call_refused {r} {after} {x} h o e z = call_settled h (rw (z, o) (leaves_refusal x (zeros (length work)) answer e))

@@ -10,7 +10,7 @@ use Rattle.buffer.specs.Refusals.{number_of}
 -- the three numbers that an answer is: an acceptance has no place, and a refusal has no answer
 abbrev pub outcome_of : Result ℕ Refusal → Outcome
 outcome_of (Ok n) = record { number = accepted; place = 0; length = n }
-outcome_of (Err r) = record { number = number_of r.number; place = r.place; length = 0 }
+outcome_of (Err r) = record { number = number_of r.0; place = r.1; length = 0 }
 
 -- the outcome, the answer buffer's bytes and the work buffer's as the call returns
 unfoldable pub leaves : Result ℕ Refusal → Bytes → Bytes → Exit

@@ -38,9 +38,9 @@ number_of Number.InputTooLong = numbers.input_too_long
 
 -- a refusal whose number names no place
 abbrev pub without_place : Number → Refusal
-without_place number = record { number = number; place = 0 }
+without_place number = record { 0 = number; 1 = 0 }
 
 -- an answer with the refusal's number as the paper writes it
 abbrev pub numbered : {A : Type 0} → Result A Refusal → Result A (ℕ × ℕ)
 numbered (Ok a) = Ok a
-numbered (Err r) = Err (number_of r.number, r.place)
+numbered (Err r) = Err (number_of r.0, r.1)

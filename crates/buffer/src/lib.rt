@@ -47,7 +47,7 @@ impl From<Result<usize, Refusal>> for Outcome {
                 place: 0,
                 length,
             },
-            Err(Refusal { number, place }) => Self {
+            Err(Refusal(number, place)) => Self {
                 number: u8::from(number),
                 place,
                 length: 0,

@@ -46,16 +46,13 @@ impl From<Number> for u8 {
 
 // A refusal: its number, and the place that the number names.
 #[derive(Clone, Copy, Debug, PartialEq, Eq)]
-pub struct Refusal {
-    pub number: Number,
-    pub place: usize,
-}
+pub struct Refusal(pub Number, pub usize);
 
 // A number that names no place is given with 0.
 impl From<Number> for Refusal {
     ghost from_gives = { λ number refusal. refusal ≡ without_place number };
 
-    fn from(number: Number) -> Self {
-        Self { number, place: 0 }
+    fn from(number: Number) -> Refusal {
+        Refusal(number, 0)
     }
 }

@@ -14,10 +14,11 @@ use Rattle.model.specs.Read as read
 use Rattle.model.specs.Read.{got, bad, Reader, next, judged, if_set, unless, ◌then◌, at_least, anything, is_text, param_fits, read_item, read_number, read_dict_id}
 use Rattle.model.proofs.Items.{item_ends, item_far, item_judged, item_law, number_law, number_ends, number_far, byte_got, two_got, ItemRoom, item_room}
 use Rattle.model.proofs.Steps.{Holds, of_got}
-use Rattle.sheet.specs.Answers.{item_of, step_of, up_of}
-use Rattle.sheet.specs.declared.Item.{Item}
-use Rattle.sheet.specs.declared.Step.{Step}
-use Rattle.text.specs.declared.Text.{Text}
+use Rattle.std.specs.Prelude.{Result, Ok, Err, IsErrAnd}
+use Rattle.buffer.specs.declared.refusal.Refusal.{Refusal}
+use Rattle.buffer.specs.Refusals.{number_of, numbered}
+use Rattle.buffer.proofs.Ends.{handed_up}
+use Rattle.sheet.specs.Answers.{Item, Step, item_of, step_of}
 use Rattle.text.specs.Text.{text_of}
 use Rattle.text.proofs.Utf8.{valid_true, broken_false}
 
