@@ -2,7 +2,7 @@
 // sheets, a train. Each answer is the definition's (crates/model, Read), without the tree.
 #![tactic(auto)]
 
-ghost use Rattle.std.specs.Prelude.{◌≡◌, ◌<◌, ◌≤◌, ◌+◌, length, [], false, true, ◌^◌, not, ◌||◌, eqb, Ok, option_map};
+ghost use Rattle.std.specs.Prelude.{◌≡◌, ◌<◌, ◌≤◌, ◌+◌, length, [], false, true, ◌^◌, not, ◌||◌, eqb, Ok, option_copied};
 ghost use Rattle.model.specs.Bytes.{bit};
 ghost use Rattle.model.specs.Tree.{layout};
 ghost use Rattle.model.specs.Tree.Params.{timestamp};
@@ -110,9 +110,9 @@ fn read_body(s: &[u8], lim: usize, at: usize, n: usize) -> Result<usize, Refusal
     let Ok(end) = raw else {
         return raw;
     };
-    if text::check(&s[at..end]).is_err() {
+    let Ok(()) = text::check(&s[at..end]) else {
         return Err(Refusal(Number::NotUtf8, at));
-    }
+    };
     raw
 }
 
@@ -141,14 +141,14 @@ fn read_if<F: FnOnce(usize) -> Result<usize, Refusal>>(
 }
 
 // A key, which has to be above the one before it, if there is one.
-fn read_key(s: &[u8], lim: usize, at: usize, before: Option<&[u8]>) -> Result<usize, Refusal>
-    ensures { numbered result ≡ step_of (read_key s.now lim (option_map (λ b. b.now) before) at) }
+fn read_key(s: &[u8], lim: usize, at: usize, previous: Option<&[u8]>) -> Result<usize, Refusal>
+    ensures { numbered result ≡ step_of (read_key s.now lim (option_copied previous.entry) at) }
 {
     let read = read_text(s, lim, at, 0);
     let Ok(end) = read else {
         return read;
     };
-    let Some(key) = before else {
+    let Some(key) = previous else {
         return read;
     };
     if text::is_below(key, &s[at + 2..end]) {
@@ -161,10 +161,10 @@ fn read_key(s: &[u8], lim: usize, at: usize, before: Option<&[u8]>) -> Result<us
 fn read_pairs(s: &[u8], lim: usize, at: usize, count: usize) -> Result<usize, Refusal>
     ensures { numbered result ≡ step_of (read_many count (read_pair s.now lim) [] at) }
 {
-    let mut before: Option<&[u8]> = None;
+    let mut previous: Option<&[u8]> = None;
     let mut place = at;
     for _ in 0..count {
-        let keyed = read_key(s, lim, place, before);
+        let keyed = read_key(s, lim, place, previous);
         let Ok(value) = keyed else {
             return keyed;
         };
@@ -172,7 +172,7 @@ fn read_pairs(s: &[u8], lim: usize, at: usize, count: usize) -> Result<usize, Re
         let Ok(end) = valued else {
             return valued;
         };
-        before = Some(&s[place + 2..value]);
+        previous = Some(&s[place + 2..value]);
         place = end;
     }
     Ok(place)
@@ -223,10 +223,7 @@ fn read_timestamp(s: &[u8], lim: usize, at: usize) -> Result<usize, Refusal>
     if 1 < map {
         return Err(Refusal(Number::Malformed, next));
     }
-    if map % 2 == 1 {
-        return read_zone(s, lim, zone);
-    }
-    Ok(zone)
+    read_if(map % 2 == 1, zone, |at| read_zone(s, lim, at))
 }
 
 // Precision and scale: each byte is allowed.
@@ -315,7 +312,13 @@ fn read_field(s: &[u8], lim: usize, at: usize, levels: usize) -> Result<usize, R
 
 // A type, with so many levels left, itself among them; ordered where the field that holds it is.
 #[cycle(reading)]
-fn read_type(s: &[u8], lim: usize, at: usize, ordered: bool, levels: usize) -> Result<usize, Refusal>
+fn read_type(
+    s: &[u8],
+    lim: usize,
+    at: usize,
+    ordered: bool,
+    levels: usize,
+) -> Result<usize, Refusal>
     ensures { numbered result ≡ step_of (read_type s.now lim levels ordered at) }
 {
     let (code, next) = read_byte(s, lim, at)?;
@@ -345,7 +348,13 @@ fn read_shape(s: &[u8], lim: usize, at: usize, code: usize, levels: usize) -> Re
 
 // The children of a type.
 #[cycle(reading)]
-fn read_children(s: &[u8], lim: usize, at: usize, code: usize, levels: usize) -> Result<usize, Refusal>
+fn read_children(
+    s: &[u8],
+    lim: usize,
+    at: usize,
+    code: usize,
+    levels: usize,
+) -> Result<usize, Refusal>
     ensures { numbered result ≡ step_of (read_children s.now lim levels (read_type s.now lim levels) (layout code).children at) }
 {
     match layout::children(code) {
@@ -358,7 +367,13 @@ fn read_children(s: &[u8], lim: usize, at: usize, code: usize, levels: usize) ->
 
 // So many fields, one after the other.
 #[cycle(reading)]
-fn read_fields(s: &[u8], lim: usize, at: usize, count: usize, levels: usize) -> Result<usize, Refusal>
+fn read_fields(
+    s: &[u8],
+    lim: usize,
+    at: usize,
+    count: usize,
+    levels: usize,
+) -> Result<usize, Refusal>
     ensures { numbered result ≡ step_of (read_many count (λ seen. read_field s.now lim levels (read_type s.now lim levels) 0) [] at) }
 {
     let mut place = at;
@@ -404,7 +419,13 @@ fn read_union(s: &[u8], lim: usize, at: usize, levels: usize) -> Result<usize, R
 
 // So many union children, each an id and a field.
 #[cycle(reading)]
-fn read_members(s: &[u8], lim: usize, at: usize, count: usize, levels: usize) -> Result<usize, Refusal>
+fn read_members(
+    s: &[u8],
+    lim: usize,
+    at: usize,
+    count: usize,
+    levels: usize,
+) -> Result<usize, Refusal>
     ensures { numbered result ≡ step_of (read_many count (read_union_child s.now lim levels (read_type s.now lim levels)) [] at) }
 {
     let mut used = [0u8; 128];
