@@ -1,5 +1,5 @@
 -- Strings, lists, heads and parameters: the place behind each, from the places that the code's steps give.
-use Prim.Native.Nat.{ℕ, zero, suc, ◌+◌, ◌*◌, ◌/◌, ◌%◌, ◌≤◌}
+use Prim.Native.Nat.{ℕ, zero, suc, ◌+◌, ◌*◌, ◌/◌, ◌%◌, ◌^◌, ◌≤◌}
 use native.Mathlib.Omega.{arith}
 use mathlib.Core.Path.{◌≡◌, refl, sym, ap, subst, ◌∙◌}
 use Rattle.std.proofs.Math.Path.{subst₂}
@@ -7,6 +7,7 @@ use mathlib.Core.List.{List, [], ◌∷◌, ◌++◌}
 use mathlib.Core.Bool.{Bool, true, false}
 use lib.ListN.{length, get_or, length-append}
 use lib.Dec.{eqb}
+use borrow.Author.Tests.{eqb-true, eqb-false}
 use Rattle.model.specs.Bytes.{Bytes, Metadata, num, u16, u64, bit, flag}
 use Rattle.model.specs.Tree.{Head, layout}
 use Rattle.model.specs.Tree.Params.{timestamp}
@@ -20,6 +21,15 @@ use Rattle.layout.specs.declared.ParamsKind.TheVariants.{None, Timestamp, Unit, 
 use Rattle.layout.specs.Kinds.{params_of}
 use Rattle.walk.specs.Widths.{widths, width}
 use Rattle.walk.proofs.Standing.{first_stands, byte_stands, two_stands, skip_none, skip_ahead, skip_when, skip_join, stands_behind, num_u16}
+
+-- a bit as a number
+pub bit_true : (k m : ℕ) → bit k m ≡ true → m / 2 ^ k % 2 ≡ 1
+unfolding bit
+bit_true k m e = eqb-true (m / 2 ^ k % 2) 1 e
+
+pub bit_false : (k m : ℕ) → bit k m ≡ false → m / 2 ^ k % 2 ≡ 1 → ⊥
+unfolding bit
+bit_false k m e = eqb-false (m / 2 ^ k % 2) 1 e
 
 pub length_u64 : (n : ℕ) → length (u64 n) ≡ 8
 unfolding u64
