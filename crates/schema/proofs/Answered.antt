@@ -43,10 +43,6 @@ columns_places {s} x {n} {first} a = go x.metadata x.columns a.ends
         omega (arith, e, length-append (part (with_count pair_bytes) m) (part (with_count column_bytes) (c ∷ cs))) in
         ap (λ p. each_at column_bytes (own max_levels) p (c ∷ cs)) place
 
-length_counted : (ns : List ℕ) → length (with_count u16 ns) ≡ 2 + 2 * length ns
-unfolding with_count u16
-length_counted ns = omega (arith, length_numbers ns)
-
 -- the offsets behind the first two bytes, and then their count in these
 counted_written : (ns : List ℕ) {s b : Bytes} {place : ℕ} {w w₁ w₂ : Bytes} {r t k q : ℕ} → length s < 65536 → Stands s place b → length ns < 65536
     → length (with_count u16 ns) ≤ length w → Flattens s place b ns w 2 w₁ r t → k ≡ (t - 2) / 2 → Puts k w₁ 0 w₂ q
