@@ -3,7 +3,7 @@
 // Look-up of a key walks a sheet: datatype has it.
 #![tactic(auto)]
 
-ghost use Rattle.std.specs.Prelude.{◌≡◌, ◌+◌, ◌≤◌, ◌<◌, length, take, drop};
+ghost use Rattle.std.specs.Prelude.{◌≡◌, ◌+◌, ◌≤◌, length, take, drop};
 ghost use Rattle.model.specs.Bytes.{num, all, same_bytes, below};
 ghost use Rattle.model.specs.Text.{utf8};
 ghost use Rattle.text.specs.Text.{text_of, ascii};
@@ -40,45 +40,16 @@ pub fn check(p: &[u8]) -> Result<(), NotUtf8>
     check_characters(p)
 }
 
-// A byte as a number of eight bytes.
-fn wide(x: u8) -> u64
-    ensures { (result ≡ x) × (result < 256) }
-{
-    x as u64
-}
-
-// The number of the eight bytes at a place, the lowest first. The sum compiles to one load.
+// The number of the eight bytes at a place, the lowest first. It compiles to one load.
 pub fn word(s: &[u8], i: usize) -> u64
     requires { i + 8 ≤ length s.now }
     ensures { result ≡ num (take 8 (drop i s.now)) }
 {
-    wide(s[i])
-        + 256 * wide(s[i + 1])
-        + 65536 * wide(s[i + 2])
-        + 16777216 * wide(s[i + 3])
-        + 4294967296 * wide(s[i + 4])
-        + 1099511627776 * wide(s[i + 5])
-        + 281474976710656 * wide(s[i + 6])
-        + 72057594037927936 * wide(s[i + 7])
+    u64::from_le_bytes(*s[i..].first_chunk().unwrap())
 }
 
-// Whether two byte strings of one length are equal, byte by byte. From the end, since names that differ often begin alike.
-fn same_short(a: &[u8], b: &[u8]) -> bool
-    requires { length a.now ≡ length b.now }
-    ensures { result ≡ same_bytes a.now b.now }
-{
-    let mut i = a.len();
-    while 0 < i {
-        i -= 1;
-        if a[i] != b[i] {
-            return false;
-        }
-    }
-    true
-}
-
-// Whether two byte strings are equal. Names are compared by this function alone. Eight bytes at a time and the last eight first; the others
-// from the front on, up to where these begin.
+// Whether two byte strings are equal. Names are compared by this function alone, and from the end, since those that differ often begin
+// alike: of fewer than eight bytes each byte; else the last eight, and then eight at a time from the front on, up to where these begin.
 pub fn same(a: &[u8], b: &[u8]) -> bool
     ensures { result ≡ same_bytes a.now b.now }
 {
@@ -86,18 +57,16 @@ pub fn same(a: &[u8], b: &[u8]) -> bool
         return false;
     }
     if a.len() < 8 {
-        return same_short(a, b);
+        return a.iter().rev().eq(b.iter().rev());
     }
     let last = a.len() - 8;
     if word(a, last) != word(b, last) {
         return false;
     }
-    let mut i = 0;
-    while i < last {
+    for i in (0..last).step_by(8) {
         if word(a, i) != word(b, i) {
             return false;
         }
-        i += 8;
     }
     true
 }
