@@ -75,15 +75,5 @@ pub fn same(a: &[u8], b: &[u8]) -> bool
 pub fn is_below(a: &[u8], b: &[u8]) -> bool
     ensures { result ≡ below a.now b.now }
 {
-    let mut i = 0;
-    while i < b.len() {
-        if a.len() <= i {
-            return true;
-        }
-        if a[i] != b[i] {
-            return a[i] < b[i];
-        }
-        i += 1;
-    }
-    false
+    a.cmp(b).is_lt()
 }
