@@ -24,6 +24,7 @@ use Rattle.table.specs.declared.Merged.TheVariants.{Used, Clash}
 use Rattle.table.proofs.Numbers.{length_u24}
 use Rattle.table.proofs.Held.{held_as, held_length, held_stands}
 use Rattle.table.proofs.Says.{says_in}
+use Rattle.table.proofs.Opening.{SetsByte}
 use Rattle.metadata.specs.Fields.{with_metadata, merge_field_metadata, Opened}
 use Rattle.metadata.specs.Merges.{SaysRow, SaysEntry, MergesPairs, Marks, OpensMetadata, MergesMetadata}
 use Rattle.table.specs.Edits.{InsertsPlace}
@@ -32,23 +33,19 @@ use Rattle.table.proofs.Fits.{type_fits, field_fits}
 use Rattle.metadata.proofs.Heads.{FindsPairs, part_long, part_counted}
 use Rattle.metadata.proofs.Entries.{flags_is, first_head, is_raw, is_opened, respelt, wider, HasMetadata}
 
--- what `overwrite` ensures
-abbrev pub Overwrites : Bytes → ℕ → ℕ → Bytes → Bytes → Type 0
-Overwrites w used place v w' = (length w' ≡ length w) × ((x y z : Bytes) → Held w used x y z → place ≡ length x → length y ≡ length v → Held w' used x v z)
-
-pub marked : {w w₁ w' : Bytes} {used place flags row r : ℕ} → Overwrites w used place ((flags % 4 + 4) ∷ []) w₁ → Ahead w₁ place 4 row → InsertsPlace w₁ used row no_place w' r → Marks w used place flags w' r
-marked {w} {w₁} {w'} {used} {place} {flags} {row} {r} over a ins = record { same_length = ins.same_length ∙ over.0; marks = go }
+pub marked : {w w₁ w' : Bytes} {used place flags row r : ℕ} → (length w₁ ≡ length w) × SetsByte w used place (flags % 4 + 4) w₁ → Ahead w₁ place 4 row → InsertsPlace w₁ used row no_place w' r → Marks w used place flags w' r
+marked {w} {w₁} {w'} {used} {place} {flags} {row} {r} set a ins = record { same_length = ins.same_length ∙ set.0; marks = go }
   where
     go : (x z b : Bytes) (first : ℕ) → Held w used x (flags ∷ (u24 first ++ b)) z → place ≡ length x → flags < 4 → used + 3 ≤ length w
         → (r ≡ used + 3) × Held w' r (x ++ ((flags + 4) ∷ u24 first)) (u24 no_place) (b ++ z)
     go x z b first h hx low room =
         let f : flags % 4 + 4 ≡ flags + 4 = omega (arith, low) in
         let h₁ : Held w used x (flags ∷ []) ((u24 first ++ b) ++ z) = held_as h refl in
-        let h₂ = subst (λ n. Held w₁ used x (n ∷ []) ((u24 first ++ b) ++ z)) f (over.1 x (flags ∷ []) ((u24 first ++ b) ++ z) h₁ hx refl) in
+        let h₂ = subst (λ n. Held w₁ used x (n ∷ []) ((u24 first ++ b) ++ z)) f (set.1 x ((u24 first ++ b) ++ z) flags h₁ hx (omega arith)) in
         let h₃ : Held w₁ used (x ++ ((flags + 4) ∷ u24 first)) [] (b ++ z) = held_as h₂ (simp append_assoc) in
         let n : length (x ++ ((flags + 4) ∷ u24 first)) ≡ length x + 4 = omega (arith, length-append x ((flags + 4) ∷ u24 first), length_u24 first) in
         let inside : place + 4 ≤ length w₁ = omega (arith, hx, n, held_length h₃, h₃.fits) in
-        ins.inserts (x ++ ((flags + 4) ∷ u24 first)) (b ++ z) h₃ (omega (arith, a.1 inside, hx, n)) (omega (arith, room, over.0))
+        ins.inserts (x ++ ((flags + 4) ∷ u24 first)) (b ++ z) h₃ (omega (arith, a.1 inside, hx, n)) (omega (arith, room, set.0))
 
 -- Places of the pairs of an entry's first occurrence
 

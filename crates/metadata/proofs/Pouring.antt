@@ -1,5 +1,5 @@
 -- Pair after pair into a row of pairs: the turns of `merge_pairs`.
-use Prim.Native.Nat.{ℕ, ◌+◌, ◌*◌, ◌-◌, ◌≤◌, ◌<◌}
+use Prim.Native.Nat.{ℕ, ◌+◌, ◌*◌, ◌≤◌, ◌<◌}
 use native.Mathlib.Omega.{arith}
 use mathlib.Core.Path.{◌≡◌, refl, sym, ap, subst, ◌∙◌}
 use mathlib.Core.List.{List, [], ◌∷◌, ◌++◌, append_assoc, append-nil}
@@ -150,9 +150,9 @@ module _ {s w w' : Bytes} {number from spot end place left : ℕ} {r : Merged} (
                 ∙ ap (λ t. merge_metadata number t (p ∷ ps)) (ap (λ t. k.passed ++ t) c.pairs ∙ sym (append_assoc k.passed c.before c.after));
           }
 
-  left_again : {next value place' : ℕ} → r ≡ Used next → SkipsText s place value → SkipsText s value place' → Left s w' number spot next place' (left - 1) x z b whole
+  left_again : {next value place' left' : ℕ} → r ≡ Used next → SkipsText s place value → SkipsText s value place' → left ≡ left' + 1 → Left s w' number spot next place' left' x z b whole
   unfolding merge_metadata
-  left_again i key value =
+  left_again i key value one =
       let t = turn in
       let c = t.cut in
       let u = t.says i in
@@ -173,7 +173,7 @@ module _ {s w w' : Bytes} {number from spot end place left : ℕ} {r : Merged} (
         lower = λ q qs e.
             let after = (keys_lower k.seen (t.p ∷ []) q qs (subst (λ n. Each WellFormedPair k.seen (t.p ∷ n)) e sorted)).0 in
             every_map (λ o. below o.0 t.p.0 ≡ true) (λ o. below o.0 q.0 ≡ true) (λ o h. below_transitive o.0 t.p.0 q.0 h after) (k.passed ++ c.before) t.low;
-        counts = omega (arith, k.counts, ap length t.rests);
+        counts = omega (arith, k.counts, ap length t.rests, one);
         stands = stands_behind (pair_skips key value t.p) (subst (λ n. Stands s place (each pair_bytes n)) t.rests k.stands);
         fits = omega (arith, k.fits, u.fits, t.long, t.total);
         all = omega (arith, k.all, puts.same_length);
@@ -189,10 +189,10 @@ module _ {s w w' : Bytes} {number from spot end place left : ℕ} {r : Merged} (
 
 module _ {s w₀ w w' : Bytes} {used row q count number from spot end place left : ℕ} (k : Pouring s w₀ w used row q count number from end place left) where
   module _ {r : Merged} (more : 0 < left) (find : FindsKey s w from place spot) (puts : PutsPair s w end spot place number w' r) where
-    pub pour_again : {next value place' : ℕ} → r ≡ Used next → SkipsText s place value → SkipsText s value place' → Pouring s w₀ w' used row q count number spot next place' (left - 1)
-    pour_again i key value = record {
+    pub pour_again : {next value place' left' : ℕ} → r ≡ Used next → SkipsText s place value → SkipsText s value place' → left ≡ left' + 1 → Pouring s w₀ w' used row q count number spot next place' left'
+    pour_again i key value one = record {
       same = puts.same_length ∙ k.same;
-      rest = λ x y z j m new h hx pl n st sorted small room. left_again find puts more small (k.rest x y z j m new h hx pl n st sorted small room) i key value;
+      rest = λ x y z j m new h hx pl n st sorted small room. left_again find puts more small (k.rest x y z j m new h hx pl n st sorted small room) i key value one;
     }
 
     -- a clash of one pair is that of all
