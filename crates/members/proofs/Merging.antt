@@ -1,5 +1,5 @@
 -- One child into a row of children, and one after the other.
-use Prim.Native.Nat.{ℕ, ◌+◌, ◌*◌, ◌-◌, ◌≤◌, ◌<◌}
+use Prim.Native.Nat.{ℕ, ◌+◌, ◌*◌, ◌≤◌, ◌<◌}
 use native.Mathlib.Omega.{arith}
 use mathlib.Core.Path.{◌≡◌, refl, sym, ap, subst, ◌∙◌}
 use mathlib.Core.List.{List, [], ◌∷◌, ◌++◌, append_assoc}
@@ -113,10 +113,10 @@ abbrev pub Merging : (levels : ℕ) (s w₀ w : Bytes) (used row q count end pla
 Merging levels s w₀ w used row q count end place left =
     Pouring (λ l. merge_child (same_type l)) member_bytes WholeChild levels s row (λ l. Members l s) (MergesMembers levels s w₀ used row q count) (λ l. Members l s) w₀ w end place left
 
-pub merging_begin : {levels : ℕ} {s w : Bytes} (used row q count : ℕ) → Merging levels s w w used row q count used q count
-merging_begin used row q count = record {
+pub merging_begin : {levels : ℕ} {s w : Bytes} (used row q count : ℕ) {left : ℕ} → left ≡ count → Merging levels s w w used row q count used q left
+merging_begin used row q count e = record {
   same = refl;
-  rest = λ w' r m l low. record { says = λ x y z k a bs h hx p st v n small. m l bs low small v n st x y z k a h hx p };
+  rest = λ w' r m l low. record { says = λ x y z k a bs h hx p st v n small. m l bs low small v (n ∙ sym e) st x y z k a h hx p };
 }
 
 module _ {levels : ℕ} {s w₀ w : Bytes} {used row q count end place left : ℕ} (t : Merging levels s w₀ w used row q count end place left) where
@@ -124,8 +124,8 @@ module _ {levels : ℕ} {s w₀ w : Bytes} {used row q count end place left : �
     one : One (λ l. merge_child (same_type l)) member_bytes WholeChild levels s row (λ l. Members l s) (λ l. Members l s) w end place w' r
     one l f low small v st x y z k a h hx p = (merges.1 l low).says x y z k a f h hx p st v (omega (arith, st.inside, small))
 
-    pub merging_again : {next place' : ℕ} → r ≡ Used next → SkipsMember s place levels place' → Merging levels s w₀ w' used row q count next place' (left - 1)
-    merging_again e skips = pouring_again _ _ _ _ _ _ _ t (λ l. Members l s) more merges.0 one e skips
+    pub merging_again : {next place' left' : ℕ} → r ≡ Used next → SkipsMember s place levels place' → left ≡ left' + 1 → Merging levels s w₀ w' used row q count next place' left'
+    merging_again e skips less = pouring_again _ _ _ _ _ _ _ t (λ l. Members l s) more merges.0 one e skips less
 
     pub merging_stop : {c : ℕ} → r ≡ Clash c → (length w' ≡ length w₀) × MergesMembers levels s w₀ used row q count w' r
     merging_stop e = pouring_stop _ _ _ _ _ _ _ t (λ l. Members l s) more merges.0 one e

@@ -55,8 +55,8 @@ pub record Pouring (s w₀ w : Bytes) (used row q count number from end place le
       → Each WellFormedPair [] new → length s < no_place → length x + (k + 4 * length (each pair_bytes new)) + length z ≤ length w₀
       → Left s w number from end place left x z (k + 4 * length (each pair_bytes new)) (merge_metadata number m new)
 
-pub pour_begin : {s w : Bytes} (used row q count number : ℕ) → Pouring s w w used row q count number row used q count
-pour_begin used row q count number = record {
+pub pour_begin : {s w : Bytes} (used row q count number : ℕ) {left : ℕ} → left ≡ count → Pouring s w w used row q count number row used q left
+pour_begin used row q count number e = record {
   same = refl;
   rest = λ x y z k m new h hx pl n st sorted small room. record {
     passed_places = [];
@@ -72,7 +72,7 @@ pour_begin used row q count number = record {
     rest = new;
     sorted = sorted;
     lower = λ p ps e. tt;
-    counts = n;
+    counts = n ∙ sym e;
     stands = st;
     fits = omega arith;
     all = room;

@@ -13,5 +13,4 @@ pub mod Places
 pub mod Given
 pub mod TakingWhile
 pub mod Fits
-pub mod Sought
 pub mod Pouring

@@ -38,14 +38,14 @@ module _ {A B : ℕ → Type 0} (put : (l : ℕ) → A l → B l → model.Merge
 
     -- the first and then the others make all; a clash of the first is that of all
     module _ {P : (l k : ℕ) → Bytes → A l → Type 0} (R : (l k : ℕ) → Bytes → A l → Type 0) {w : Bytes} (w' : Bytes) {used place left : ℕ} (more : 0 < left) where
-      many_on : {u next : ℕ} (v : Bytes) (q : Merged) → length w' ≡ length w → One P R w used place w' (Used u) → ((l : ℕ) (b : B l) → l ≤ levels → W l b → Skips s place (write l b) next)
-          → Many R w' u next (left - 1) v q → Many P w used place left v q
-      many_on v q same one skips m l [] low small good n st x y z k a h hx p room = absurd (omega (arith, more, n))
-      many_on v q same one skips m l (b ∷ bs) low small good n st x y z k a h hx p room =
+      many_on : {u next left' : ℕ} (v : Bytes) (q : Merged) → length w' ≡ length w → One P R w used place w' (Used u) → ((l : ℕ) (b : B l) → l ≤ levels → W l b → Skips s place (write l b) next)
+          → left ≡ left' + 1 → Many R w' u next left' v q → Many P w used place left v q
+      many_on v q same one skips less m l [] low small good n st x y z k a h hx p room = absurd (omega (arith, more, n))
+      many_on v q same one skips less m l (b ∷ bs) low small good n st x y z k a h hx p room =
           let size = length-append (write l b) (each (write l) bs) in
           let t = one l b low small good.0 (first_stands (write l b) (each (write l) bs) st) x y z k a h hx p (omega (arith, room, size)) in
           says_as (Q l) (t.room + 4 * length (each (write l) bs)) (k + 4 * length (each (write l) (b ∷ bs))) x z v q (omega (arith, t.fits, size)) (pour_next (put l) a b bs t.value t.is)
-          (m l bs low small good.1 (omega (arith, n)) (stands_behind (skips l b low good.0) st) x t.spelt z t.room t.value t.held hx t.spells (omega (arith, room, same, t.fits, size)))
+          (m l bs low small good.1 (omega (arith, n, less)) (stands_behind (skips l b low good.0) st) x t.spelt z t.room t.value t.held hx t.spells (omega (arith, room, same, t.fits, size)))
 
       many_stop : {c : ℕ} → One P R w used place w' (Clash c) → Many P w used place left w' (Clash c)
       many_stop one l [] low small good n st x y z k a h hx p room = absurd (omega (arith, more, n))
@@ -59,8 +59,8 @@ module _ {A B : ℕ → Type 0} (put : (l : ℕ) → A l → B l → model.Merge
 
     module _ {Goal : Bytes → Merged → Type 0} {P : (l k : ℕ) → Bytes → A l → Type 0} {w₀ w : Bytes} {used place left : ℕ} (t : Pouring Goal P w₀ w used place left) where
       module _ (R : (l k : ℕ) → Bytes → A l → Type 0) {w' : Bytes} {r : Merged} (more : 0 < left) (same : length w' ≡ length w) (one : One P R w used place w' r) where
-        pub pouring_again : {u next : ℕ} → r ≡ Used u → ((l : ℕ) (b : B l) → l ≤ levels → W l b → Skips s place (write l b) next) → Pouring Goal R w₀ w' u next (left - 1)
-        pouring_again e skips = record { same = same ∙ t.same; rest = λ v q m. t.rest v q (many_on R w' more v q same (subst (One P R w used place w') e one) skips m) }
+        pub pouring_again : {u next left' : ℕ} → r ≡ Used u → ((l : ℕ) (b : B l) → l ≤ levels → W l b → Skips s place (write l b) next) → left ≡ left' + 1 → Pouring Goal R w₀ w' u next left'
+        pouring_again e skips less = record { same = same ∙ t.same; rest = λ v q m. t.rest v q (many_on R w' more v q same (subst (One P R w used place w') e one) skips less m) }
 
         pub pouring_stop : {c : ℕ} → r ≡ Clash c → (length w' ≡ length w₀) × Goal w' r
         pouring_stop {c} e = (same ∙ t.same, subst (Goal w') (sym e) (t.rest w' (Clash c) (many_stop R w' more (subst (One P R w used place w') e one))))
