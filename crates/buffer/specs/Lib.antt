@@ -2,3 +2,4 @@
 pub mod Buffer
 pub mod Puts
 pub mod Leaves
+pub mod Refusals

@@ -5,6 +5,8 @@
 // such buffers: what it makes, it owns.
 #![tactic(auto)]
 
+mod refusal;
+
 ghost use Rattle.std.specs.Prelude.{◌≡◌, [], ◌∷◌, ◌+◌, ◌*◌, ◌/◌, ◌%◌, ◌≤◌, ◌<◌, length, ltb};
 ghost use Rattle.model.specs.Numbers.{work_bytes_per_sheet_byte};
 ghost use Rattle.model.specs.Bytes.{Bytes, u16};
@@ -12,6 +14,8 @@ ghost use Rattle.model.specs.Call.{zeros, acceptance};
 ghost use Rattle.buffer.specs.Buffer.{pasted};
 ghost use Rattle.buffer.specs.Puts.{Puts, length_number};
 ghost use Rattle.buffer.specs.Leaves.{leaves, refused_with, accepted_with};
+
+pub use refusal::{Number, Refusal};
 
 // "work buffer below 4 times the sheet bytes given"
 pub const WORK_BYTES_PER_SHEET_BYTE: usize = 4;

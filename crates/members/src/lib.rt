@@ -8,11 +8,8 @@ ghost use Rattle.std.specs.Prelude.{◌≡◌, length, get_or, eqb};
 ghost use Rattle.members.specs.Rows.{by_id};
 ghost use Rattle.members.specs.Claims.{SameMembers, SkipsMember, FindsChildren, FindsMember, FindsId, TellsIds, MergesMember, MergesMembers, InsertsMembers, OpensRaw, OpensUnion, MergesUnion};
 
-use table::{Kind, Merged, PlaceRow};
-
-const EQUAL_CHILD_CLASH: u8 = 23;
-
-const TYPE_ID_CLASH: u8 = 24;
+use buffer::Number;
+use table::{Kind, PlaceRow};
 
 // What the search for an equal child ends with: the first one has the id of the child that comes in, or another; or where the row ends.
 #[derive(Clone, Copy)]
@@ -60,14 +57,14 @@ pub fn merge_member(
     at: usize,
     q: usize,
     levels: usize,
-) -> Merged
+) -> Result<usize, Number>
     ensures { (length w.new ≡ length w.old) × MergesMember levels s.now w.old used at q w.new result }
 {
     let found = find_member(s, w, at, q, levels);
     match found {
-        Match::SameId => Merged::Used(used),
-        Match::OtherId => Merged::Clash(EQUAL_CHILD_CLASH),
-        Match::Missing(end) => Merged::Used(table::insert_place(w, used, end, q)),
+        Match::SameId => Ok(used),
+        Match::OtherId => Err(Number::EqualChildClash),
+        Match::Missing(end) => Ok(table::insert_place(w, used, end, q)),
     }
 }
 
@@ -87,20 +84,20 @@ pub fn merge_members(
     q: usize,
     count: usize,
     levels: usize,
-) -> Merged
+) -> Result<usize, Number>
     ensures { (length w.new ≡ length w.old) × MergesMembers levels s.now w.old used at q count w.new result }
 {
     let mut place = q;
     let mut end = used;
     for _ in 0..count {
         let merged = merge_member(s, w, end, at, place, levels);
-        let Merged::Used(next) = merged else {
+        let Ok(next) = merged else {
             return merged;
         };
         end = next;
         place = skip_member(s, place, levels);
     }
-    Merged::Used(end)
+    Ok(end)
 }
 
 // Whether a child of a row has this id.
@@ -194,18 +191,18 @@ pub fn merge_union(
     at: usize,
     t: usize,
     levels: usize,
-) -> Merged
+) -> Result<usize, Number>
     ensures { (length w.new ≡ length w.old) × MergesUnion levels s.now w.old used at t w.new result }
 {
     let end = open_union(s, w, used, at, levels);
     let row = walk::ahead(w, at, 4);
     let children = find_children(s, t);
     let merged = merge_members(s, w, end, row, children.at, children.count, levels);
-    let Merged::Used(next) = merged else {
+    let Ok(next) = merged else {
         return merged;
     };
     if ids_differ(s, w, row) {
-        return Merged::Used(next);
+        return Ok(next);
     }
-    Merged::Clash(TYPE_ID_CLASH)
+    Err(Number::TypeIdClash)
 }

@@ -15,12 +15,14 @@ use Rattle.model.specs.Merge.{Merged, done, clash, ◌>>=◌, merge_pair, merge_
 use Rattle.model.specs.WellFormed.{Each, WellFormedPair}
 use Rattle.model.proofs.Gives.{Gives, value, of_done, pour_none}
 use Rattle.model.proofs.SortedMetadata.{merge_into_none, merge_into_self}
+use Rattle.std.specs.Result.{result_unwrap_or}
+use Rattle.buffer.specs.declared.refusal.Number.{Number}
 use Rattle.walk.specs.Stands.{Stands}
 use Rattle.walk.proofs.Parts.{Ahead}
 use Rattle.table.specs.Held.{Held}
 use Rattle.table.specs.Table.{u24, three, no_place, Places, pair_places, SpellField}
-use Rattle.table.specs.declared.Merged as table
-use Rattle.table.specs.declared.Merged.TheVariants.{Used, Clash}
+use Rattle.table.specs.Says as table
+use Rattle.std.proofs.Common.{Ok, Err}
 use Rattle.table.proofs.Numbers.{length_u24}
 use Rattle.table.proofs.Held.{held_as, held_length, held_stands}
 use Rattle.table.proofs.Says.{says_in}
@@ -107,14 +109,14 @@ module _ {s w : Bytes} {used place n : ℕ} (i : n ≡ get_or w place 0) where
         (merges.says own pairs.count pairs.stands e.well_formed.metadata small (x ++ ((n + 4) ∷ u24 e.first)) (u24 no_place) (e.type_spelt ++ z) 3 [] h₁ (omega (arith, b.1 inside, hx, c)) places_none
         (omega (arith, room, c, length-append e.type_spelt z, fits, e.room, raw.room, part_long own, marks.same_length))))
 
-    pub opens_clash : {c u : ℕ} → r ≡ Clash c → OpensMetadata s w used place w₂ u
+    opens_clash : {c : Number} {u : ℕ} → r ≡ Err c → OpensMetadata s w used place w₂ u
     opens_clash {c} e = record {
       same_length = merges.same_length ∙ marks.same_length;
       opens = λ l x y z k f h hx q small room.
           absurd (done_clash (opening l x y z k f h hx q small room e));
     }
 
-    pub opens_row : {next : ℕ} → r ≡ Used next → OpensMetadata s w used place w₂ next
+    opens_row : {next : ℕ} → r ≡ Ok next → OpensMetadata s w used place w₂ next
     opens_row {next} ok = record { same_length = merges.same_length ∙ marks.same_length; opens = go }
       where
         go : (l : ℕ) (x y z : Bytes) (k : ℕ) (f : Field l) → Held w used x y z → place ≡ length x → SpellField l s k y f → length s < no_place → length x + (k + 3) + length z ≤ length w
@@ -134,11 +136,19 @@ module _ {s w : Bytes} {used place n : ℕ} (i : n ≡ get_or w place 0) where
               held = held_as t.held (simp append_assoc);
             }
 
+    -- a clash of them would leave it as it was
+    pub opens_some : {next : ℕ} → next ≡ result_unwrap_or r used → OpensMetadata s w used place w₂ next
+    opens_some {next} e = go r refl e
+      where
+        go : (q : table.Merged) → r ≡ q → next ≡ result_unwrap_or q used → OpensMetadata s w used place w₂ next
+        go (Ok m) i j = opens_row (i ∙ ap (λ (n : ℕ). Ok n) (sym j))
+        go (Err c) i j = opens_clash i
+
 -- What is merged into an entry's metadata
 
 -- what gives the metadata that the entry has changes nothing
 kept : {s w : Bytes} {used : ℕ} (l : ℕ) (x y z : Bytes) (k b : ℕ) (f : Field l) (m : Metadata) → Held w used x y z → SpellField l s k y f → k ≤ b → merge_metadata field_metadata_clash f.head.metadata m ≡ done f.head.metadata
-    → SaysEntry l s b x z w (Used used) (merge_field_metadata f m)
+    → SaysEntry l s b x z w (Ok used) (merge_field_metadata f m)
 unfolding ◌>>=◌
 kept {w = w} {used = used} l x y z k b f m h e fits i = record {
   value = with_metadata f f.head.metadata;
@@ -152,7 +162,7 @@ kept {w = w} {used = used} l x y z k b f m h e fits i = record {
 
 module _ {s w : Bytes} {used place q : ℕ} where
   -- none
-  pub merges_none : {count first : ℕ} → FindsPairs s q count first → count ≡ 0 → MergesMetadata s w used place q w (Used used)
+  pub merges_none : {count first : ℕ} → FindsPairs s q count first → count ≡ 0 → MergesMetadata s w used place q w (Ok used)
   unfolding merge_metadata
   merges_none p c = record {
     same_length = refl;
@@ -164,7 +174,7 @@ module _ {s w : Bytes} {used place q : ℕ} where
       go m (p ∷ n) e = absurd (omega (arith, e))
 
   -- the same
-  pub merges_same : {b : Bool} → HasMetadata s w place q b → b ≡ true → MergesMetadata s w used place q w (Used used)
+  pub merges_same : {b : Bool} → HasMetadata s w place q b → b ≡ true → MergesMetadata s w used place q w (Ok used)
   merges_same has i = record {
     same_length = refl;
     says = λ l h st sorted small x y z k f held hx e room.

@@ -8,13 +8,15 @@ ghost use Rattle.model.specs.Bytes.{Bytes, Metadata, same_bytes, below};
 ghost use Rattle.model.specs.Tree.{Head, Field};
 ghost use Rattle.model.specs.Equal.{same_metadata};
 ghost use Rattle.model.specs.Sheet.{part, text_bytes, pair_bytes, head_bytes};
+ghost use Rattle.buffer.specs.Refusals.{number_of};
 ghost use Rattle.walk.specs.Stands.{Stands};
 ghost use Rattle.table.specs.Table.{Places, SpellField};
 ghost use Rattle.metadata.specs.Pairs.{Spot};
 ghost use Rattle.metadata.specs.Merges.{PutsPair, MergesPairs, Marks, OpensMetadata, MergesMetadata};
 
+use buffer::Number;
 use datatype::metadata::{of_head, same_stretch, same_text};
-use table::{Merged, PlaceRow};
+use table::PlaceRow;
 
 // Whether the bytes from one place to another are below those between two other places.
 fn below_stretch(s: &[u8], a: usize, e: usize, b: usize, f: usize) -> bool
@@ -53,17 +55,17 @@ fn find_key(s: &[u8], w: &[u8], row: usize, q: usize) -> usize
 }
 
 // A pair of the train into the row of pairs that begins where its key belongs: before the first, or its key is that of the first.
-fn put_pair(s: &[u8], w: &mut [u8], used: usize, at: usize, q: usize, number: u8) -> Merged
-    ensures { PutsPair s.now w.old used at q number w.new result }
+fn put_pair(s: &[u8], w: &mut [u8], used: usize, at: usize, q: usize, clash: Number) -> Result<usize, Number>
+    ensures { PutsPair s.now w.old used at q (number_of clash) w.new result }
 {
     let there = table::three(w, at);
     if there == table::NO_PLACE || key_below(s, q, there) {
-        return Merged::Used(table::insert_place(w, used, at, q));
+        return Ok(table::insert_place(w, used, at, q));
     }
     if same_value(s, there, q) {
-        return Merged::Used(used);
+        return Ok(used);
     }
-    Merged::Clash(number)
+    Err(clash)
 }
 
 // So many pairs of the train, one behind the other, into a row of pairs: the loop over `from.metadata()`. They come in the order of their
@@ -75,23 +77,23 @@ pub fn merge_pairs(
     at: usize,
     q: usize,
     count: usize,
-    number: u8,
-) -> Merged
-    ensures { MergesPairs s.now w.old used at q count number w.new result }
+    clash: Number,
+) -> Result<usize, Number>
+    ensures { MergesPairs s.now w.old used at q count (number_of clash) w.new result }
 {
     let mut from = at;
     let mut place = q;
     let mut end = used;
     for _ in 0..count {
         from = find_key(s, w, from, place);
-        let merged = put_pair(s, w, end, from, place, number);
-        let Merged::Used(next) = merged else {
+        let merged = put_pair(s, w, end, from, place, clash);
+        let Ok(next) = merged else {
             return merged;
         };
         end = next;
         place = walk::skip_text(s, walk::skip_text(s, place));
     }
-    Merged::Used(end)
+    Ok(end)
 }
 
 // Where the metadata of a field of the train begins: behind its name.
@@ -133,9 +135,6 @@ fn mark_opened(w: &mut [u8], used: usize, at: usize, flags: usize) -> usize
     table::insert_place(w, used, walk::ahead(w, at, 4), table::NO_PLACE)
 }
 
-// The number of the clash of two fields' metadata.
-const FIELD_METADATA_CLASH: u8 = 21;
-
 // Gives an entry places of its pairs, those of its first occurrence, if it has none.
 fn open_metadata(s: &[u8], w: &mut [u8], used: usize, at: usize) -> usize
     ensures { OpensMetadata s.now w.old used at w.new result }
@@ -149,23 +148,19 @@ fn open_metadata(s: &[u8], w: &mut [u8], used: usize, at: usize) -> usize
     let count = own.count;
     let end = mark_opened(w, used, at, flags);
     let row = walk::ahead(w, at, 4);
-    let merged = merge_pairs(s, w, end, row, first, count, FIELD_METADATA_CLASH);
-    let Merged::Used(next) = merged else {
-        return used;
-    };
-    next
+    merge_pairs(s, w, end, row, first, count, Number::FieldMetadataClash).unwrap_or(used)
 }
 
 // `Field::try_merge`, the metadata: an entry of the table, and a field of the train that comes in. What has no metadata, or the same as an
 // entry that nothing was merged into, changes nothing.
-pub fn merge_metadata(s: &[u8], w: &mut [u8], used: usize, at: usize, q: usize) -> Merged
+pub fn merge_metadata(s: &[u8], w: &mut [u8], used: usize, at: usize, q: usize) -> Result<usize, Number>
     ensures { MergesMetadata s.now w.old used at q w.new result }
 {
     let new = of_head(s, q);
     let first = new.at;
     let count = new.count;
     if count == 0 || has_metadata(s, w, at, q) {
-        return Merged::Used(used);
+        return Ok(used);
     }
     let end = open_metadata(s, w, used, at);
     merge_pairs(
@@ -175,6 +170,6 @@ pub fn merge_metadata(s: &[u8], w: &mut [u8], used: usize, at: usize, q: usize) 
         walk::ahead(w, at, 4),
         first,
         count,
-        FIELD_METADATA_CLASH,
+        Number::FieldMetadataClash,
     )
 }

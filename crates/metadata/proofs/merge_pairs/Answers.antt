@@ -7,7 +7,7 @@ pub loop-init : goal.loop-init
 loop-init c = pour_begin _ _ _ _ _ (omega arith)
 
 pub loop-preserved : goal.loop-preserved
-loop-preserved c = pour_again c.loop.invariant (omega arith) c.find_key-from.ensures c.put_pair-merged.ensures c.in-Used.is c.skip_text.ensures c.skip_text-place.ensures (omega arith)
+loop-preserved c = pour_again c.loop.invariant (omega arith) c.find_key-from.ensures c.put_pair-merged.ensures c.in-Ok.is c.skip_text.ensures c.skip_text-place.ensures (omega arith)
 
 pub returns-in_default : goal.returns-in_default
 returns-in_default c = pour_stop c.loop.invariant (omega arith) c.find_key-from.ensures c.put_pair-merged.ensures c.in_default.is

@@ -5,12 +5,12 @@ use Rattle.metadata.proofs.put_pair.Goals.{then-there-eq-NO_PLACE-via-then-there
 
 pub returns-then-there-eq-NO_PLACE : goal.returns-then-there-eq-NO_PLACE
 returns-then-there-eq-NO_PLACE c = elim c.then-there-eq-NO_PLACE.branch [
-  | at_mark w ↦ put_last _ _ c.three-there.ensures.0 c.insert_place.ensures w.if-there-eq-NO_PLACE.true
-  | above w ↦ put_before _ _ c.three-there.ensures.0 c.insert_place.ensures w.key_below.ensures w.if-key_below.true
+  | at_mark w ↦ put_last _ c.args.clash c.three-there.ensures.0 c.insert_place.ensures w.if-there-eq-NO_PLACE.true
+  | above w ↦ put_before _ c.args.clash c.three-there.ensures.0 c.insert_place.ensures w.key_below.ensures w.if-key_below.true
 ]
 
 pub returns-then-same_value : goal.returns-then-same_value
-returns-then-same_value c = put_there _ _ c.three-there.ensures.0 c.if-there-eq-NO_PLACE.false c.key_below.ensures c.if-key_below.false c.same_value.ensures c.if-same_value.true
+returns-then-same_value c = put_there _ c.args.clash c.three-there.ensures.0 c.if-there-eq-NO_PLACE.false c.key_below.ensures c.if-key_below.false c.same_value.ensures c.if-same_value.true
 
 pub returns : goal.returns
-returns c = put_clash _ _ c.three-there.ensures.0 c.if-there-eq-NO_PLACE.false c.key_below.ensures c.if-key_below.false c.same_value.ensures c.if-same_value.false
+returns c = put_clash _ c.args.clash c.three-there.ensures.0 c.if-there-eq-NO_PLACE.false c.key_below.ensures c.if-key_below.false c.same_value.ensures c.if-same_value.false
