@@ -7,6 +7,7 @@ use mathlib.Core.List.{List, [], ◌∷◌, ◌++◌, append-nil}
 use mathlib.Core.Bool.{Bool, true, false}
 use lib.ListN.{length, drop, get_or}
 use lib.Seq.{get_or-drop}
+use Rattle.std.specs.Prelude.{Option, None, Some}
 use lib.Dec.{eqb}
 use borrow.Author.Tests.{eqb-true}
 use Rattle.model.specs.Numbers.{max_sheet_bytes}
@@ -21,7 +22,6 @@ use Rattle.walk.proofs.Parts.{Ahead}
 use Rattle.walk.proofs.Descents.{type_stands}
 use Rattle.buffer.specs.Puts.{Puts}
 use Rattle.filter.specs.declared.Reach.{Reach}
-use Rattle.filter.specs.declared.Sifted.{Sifted}
 use Rattle.filter.specs.Filters.{Begins, Filters, FiltersLeaf, first_bytes, alone, below, unless_nothing, TypeSifted, FieldFiltered, ChildFiltered, FiltersType, FiltersField, FiltersChild, child_bytes, kept_of}
 use Rattle.filter.proofs.Walking.{filters_when, filters_as, filters_copied, filters_join, filters_fronted, filters_undone}
 
@@ -137,10 +137,10 @@ nested_bytes l f m [] rest = refl
 nested_bytes l f m (t ∷ ts) rest =
     part_some (λ k. head_bytes f.head ++ k) (type_bytes l t) (type_some l t) ∙ sym (append-nil (head_bytes f.head ++ type_bytes l t))
 
-module _ {s : Bytes} {place body : ℕ} (levels : ℕ) (mask : Bytes) {next : ℕ} {w : Bytes} {p : ℕ} {w₁ : Bytes} {start : ℕ} {w₂ : Bytes} {r : Sifted}
+module _ {s : Bytes} {place body : ℕ} (levels : ℕ) (mask : Bytes) {next : ℕ} {w : Bytes} {p : ℕ} {w₁ : Bytes} {start : ℕ} {w₂ : Bytes} {r : Option Reach}
     (skip : (h : Head) → Skips s place (head_bytes h) body) (put : Copies s place body w p w₁ start)
     (type : FiltersType s body levels true mask next w₁ start w₂ r) where
-  pub field_nested : {reach o : Reach} → r ≡ Sifted.Nested reach → o ≡ unless_nothing p start reach → FiltersField s place levels mask next w p w₂ o
+  pub field_nested : {reach o : Reach} → r ≡ Some reach → o ≡ unless_nothing p start reach → FiltersField s place levels mask next w p w₂ o
   unfolding field_bytes filter_field field_leaf_count
   field_nested {reach} {o} e u l f h z = filters_when λ st. go (type l f.data_type h z (type_stands l f skip st))
     where
@@ -156,7 +156,7 @@ module _ {s : Bytes} {place body : ℕ} (levels : ℕ) (mask : Bytes) {next : �
           (filters_fronted (filters_copied (head_bytes f.head) (skip f.head) put) d))
 
   -- the field is a leaf
-  pub field_leaf : {end : ℕ} {w₃ : Bytes} {o : Reach} → r ≡ Sifted.Leaf → SkipsType s body levels end → FiltersLeaf s place end mask next w₂ p w₃ o
+  pub field_leaf : {end : ℕ} {w₃ : Bytes} {o : Reach} → r ≡ None → SkipsType s body levels end → FiltersLeaf s place end mask next w₂ p w₃ o
       → FiltersField s place levels mask next w p w₃ o
   unfolding field_bytes filter_field filter_to field_leaf_count
   field_leaf {end} {w₃} {o} e types i l f h z = filters_when λ st. go st (type l f.data_type h z (type_stands l f skip st))

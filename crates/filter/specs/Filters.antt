@@ -1,6 +1,6 @@
 -- Going over bytes of a sheet and writing down what the filter keeps of them. A walk stands at a place of the sheet, at a leaf, counted
 -- from 0 in the order of the mask's bytes, and at a position in the work buffer.
-use Rattle.std.specs.Prelude.{ℕ, suc, ◌+◌, ◌%◌, ◌≤◌, ◌≡◌, List, [], ◌∷◌, ◌++◌, Bool, true, false, length, drop, get_or, eqb}
+use Rattle.std.specs.Prelude.{ℕ, suc, ◌+◌, ◌%◌, ◌≤◌, ◌≡◌, List, [], ◌∷◌, ◌++◌, Bool, true, false, length, drop, get_or, eqb, Option, None, Some}
 use Rattle.model.specs.Numbers.{max_levels, max_sheet_bytes}
 use Rattle.model.specs.Bytes.{Bytes, choose}
 use Rattle.model.specs.Tree.{Head, DataType, Field, Schema, Children, layout, with_children}
@@ -11,7 +11,6 @@ use Rattle.model.specs.Filter.{Filtered, Leaves, filter_each, filter_field, filt
 use Rattle.walk.specs.Stands.{Stands, Skips, AllLaidOut}
 use Rattle.filter.specs.declared.Reach.{Reach}
 use Rattle.filter.specs.declared.Row.{Row}
-use Rattle.filter.specs.declared.Sifted.{Sifted}
 
 -- a buffer begins with the bytes x, and p is the position behind them
 pub record Begins (w : Bytes) (p : ℕ) (x : Bytes) : Type 0 where
@@ -53,19 +52,19 @@ abbrev pub first_bytes : {T : Type 0} → (T → Bytes) → List T → Bytes
 first_bytes f [] = []
 first_bytes f (t ∷ ts) = f t
 
--- What the enum says of what the definition makes of a type, and of its leaf count; b are the type's bytes, and f gives those of what is left.
-pub data Sifts (s b : Bytes) {T : Type 0} (f : T → Bytes) (model : Filtered T) (count : Leaves ℕ) (place next : ℕ) (w : Bytes) (p : ℕ) (w' : Bytes) (r : Sifted) : Type 0 where
-  alone : model ≡ Filtered.leaf → count ≡ Leaves.itself → r ≡ Sifted.Leaf → Filters s [] 0 [] place next w p place next w' p
+-- What the answer says of what the definition makes of a type, and of its leaf count; b are the type's bytes, and f gives those of what is left.
+pub data Sifts (s b : Bytes) {T : Type 0} (f : T → Bytes) (model : Filtered T) (count : Leaves ℕ) (place next : ℕ) (w : Bytes) (p : ℕ) (w' : Bytes) (r : Option Reach) : Type 0 where
+  alone : model ≡ Filtered.leaf → count ≡ Leaves.itself → r ≡ None → Filters s [] 0 [] place next w p place next w' p
       → Sifts s b f model count place next w p w' r
-  below : (ts : List T) (rest : Bytes) (n : ℕ) (reach : Reach) → model ≡ Filtered.nested ts rest → count ≡ Leaves.inside n → r ≡ Sifted.Nested reach
+  below : (ts : List T) (rest : Bytes) (n : ℕ) (reach : Reach) → model ≡ Filtered.nested ts rest → count ≡ Leaves.inside n → r ≡ Some reach
       → FiltersTo s b n (first_bytes f ts) place next w p w' reach
       → Sifts s b f model count place next w p w' r
 
-abbrev pub TypeSifted : (s mask : Bytes) (l : ℕ) (through : Bool) (t : DataType l) (place next : ℕ) (w : Bytes) (p : ℕ) (w' : Bytes) (r : Sifted) → Type 0
+abbrev pub TypeSifted : (s mask : Bytes) (l : ℕ) (through : Bool) (t : DataType l) (place next : ℕ) (w : Bytes) (p : ℕ) (w' : Bytes) (r : Option Reach) → Type 0
 TypeSifted s mask l through t place next w p w' r = Sifts s (type_bytes l t) (type_bytes l) (filter_type l through t (drop next mask)) (type_leaf_count l through t) place next w p w' r
 
 -- bytes before a type are kept where something of it is left
-abbrev pub InnerSifted : (s mask : Bytes) (l : ℕ) (a : Bytes) (t : DataType l) (place next : ℕ) (w : Bytes) (p : ℕ) (w' : Bytes) (r : Sifted) → Type 0
+abbrev pub InnerSifted : (s mask : Bytes) (l : ℕ) (a : Bytes) (t : DataType l) (place next : ℕ) (w : Bytes) (p : ℕ) (w' : Bytes) (r : Option Reach) → Type 0
 InnerSifted s mask l a t place next w p w' r =
     Sifts s (a ++ type_bytes l t) (λ t. a ++ type_bytes l t) (filter_type l false t (drop next mask)) (type_leaf_count l false t) place next w p w' r
 
@@ -124,18 +123,18 @@ HolderFiltered s mask l t place next w p w' r =
 abbrev pub FiltersField : (s : Bytes) (place levels : ℕ) (mask : Bytes) (next : ℕ) (w : Bytes) (p : ℕ) (w' : Bytes) (r : Reach) → Type 0
 FiltersField s place levels mask next w p w' r = (l : ℕ) (f : Field l) → l ≤ levels → LaidOut l f.data_type → FieldFiltered s mask l f place next w p w' r
 
-abbrev pub FiltersType : (s : Bytes) (place levels : ℕ) (through : Bool) (mask : Bytes) (next : ℕ) (w : Bytes) (p : ℕ) (w' : Bytes) (r : Sifted) → Type 0
+abbrev pub FiltersType : (s : Bytes) (place levels : ℕ) (through : Bool) (mask : Bytes) (next : ℕ) (w : Bytes) (p : ℕ) (w' : Bytes) (r : Option Reach) → Type 0
 FiltersType s place levels through mask next w p w' r =
     (l : ℕ) (t : DataType l) → l ≤ levels → LaidOut l t → Stands s place (type_bytes l t) → TypeSifted s mask l through t place next w p w' r
 
 -- a type that holds no fields, whose children are of so many levels, where none was looked through yet
-abbrev pub FiltersEncoded : (s : Bytes) (place code levels : ℕ) (mask : Bytes) (next : ℕ) (w : Bytes) (p : ℕ) (w' : Bytes) (r : Sifted) → Type 0
+abbrev pub FiltersEncoded : (s : Bytes) (place code levels : ℕ) (mask : Bytes) (next : ℕ) (w : Bytes) (p : ℕ) (w' : Bytes) (r : Option Reach) → Type 0
 FiltersEncoded s place code levels mask next w p w' r =
     (l : ℕ) (t : DataType (suc l)) → l ≤ levels → code ≡ t.code → holds_fields code ≡ false → LaidOut (suc l) t → Stands s place (type_bytes (suc l) t)
     → TypeSifted s mask (suc l) true t place next w p w' r
 
 -- a type at a place, and what stands before it from another on
-abbrev pub FiltersInner : (s : Bytes) (place inner levels : ℕ) (mask : Bytes) (next : ℕ) (w : Bytes) (p : ℕ) (w' : Bytes) (r : Sifted) → Type 0
+abbrev pub FiltersInner : (s : Bytes) (place inner levels : ℕ) (mask : Bytes) (next : ℕ) (w : Bytes) (p : ℕ) (w' : Bytes) (r : Option Reach) → Type 0
 FiltersInner s place inner levels mask next w p w' r =
     (l : ℕ) (t : DataType l) (a : Bytes) → l ≤ levels → LaidOut l t → inner ≡ place + length a → Stands s place (a ++ type_bytes l t)
     → InnerSifted s mask l a t place next w p w' r

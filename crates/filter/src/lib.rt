@@ -42,13 +42,6 @@ struct Row {
     kept: usize,
 }
 
-// What a type is to the filter: without a leaf below it, so that its field is one itself; or gone over, and what was kept of it written.
-#[derive(Clone, Copy)]
-enum Sifted {
-    Leaf,
-    Nested(Reach),
-}
-
 // Where nothing was kept behind the start, what was written before it is taken back: "A nested type with no leaf left vanishes."
 fn unless_nothing(reach: Reach, from: usize, start: usize) -> Reach
     ensures { result ≡ unless_nothing from start reach }
@@ -118,16 +111,17 @@ fn filter_field(
     let start = walk::put_part(w, pos, s, at, body);
     let sifted = filter_type(s, body, levels, true, mask, leaf, w, start);
     match sifted {
-        Sifted::Leaf => {
+        None => {
             let end = walk::skip_type(s, body, levels);
             filter_leaf(s, at, end, mask, leaf, w, pos)
         }
-        Sifted::Nested(reach) => unless_nothing(reach, pos, start),
+        Some(reach) => unless_nothing(reach, pos, start),
     }
 }
 
-// `filter_field`, its matches on the type, of at most so many levels. "One Dictionary or RunEndEncoded is looked through, not two":
-// `through` says that none was yet.
+// `filter_field`, its matches on the type, of at most so many levels: how far it was gone over, and what was kept of it written; or None,
+// where it has no leaf below it, so that its field is one itself. "One Dictionary or RunEndEncoded is looked through, not two": `through`
+// says that none was yet.
 #[cycle(filtering)]
 fn filter_type(
     s: &[u8],
@@ -138,19 +132,19 @@ fn filter_type(
     leaf: usize,
     w: &mut [u8],
     pos: usize,
-) -> Sifted
+) -> Option<Reach>
     ensures { FiltersType s.now at levels through mask.now leaf w.old pos w.new result }
 {
     if levels <= 0 {
-        return Sifted::Leaf;
+        return None;
     }
     let code = walk::byte(s, at);
     if walk::holds_fields(code) {
         let reach = filter_nested(s, at, code, levels - 1, mask, leaf, w, pos);
-        return Sifted::Nested(reach);
+        return Some(reach);
     }
     if !through {
-        return Sifted::Leaf;
+        return None;
     }
     filter_encoded(s, at, code, levels - 1, mask, leaf, w, pos)
 }
@@ -166,7 +160,7 @@ fn filter_encoded(
     leaf: usize,
     w: &mut [u8],
     pos: usize,
-) -> Sifted
+) -> Option<Reach>
     ensures { FiltersEncoded s.now at code levels mask.now leaf w.old pos w.new result }
 {
     let first = walk::ahead(s, at, 1);
@@ -179,7 +173,7 @@ fn filter_encoded(
         let body = walk::skip_head(s, values);
         return filter_inner(s, at, body, levels, mask, leaf, w, pos);
     }
-    Sifted::Leaf
+    None
 }
 
 // The type that stands at the second place, and what stands before it from the first on, which is kept with it.
@@ -193,15 +187,12 @@ fn filter_inner(
     leaf: usize,
     w: &mut [u8],
     pos: usize,
-) -> Sifted
+) -> Option<Reach>
     ensures { FiltersInner s.now at inner levels mask.now leaf w.old pos w.new result }
 {
     let start = walk::put_part(w, pos, s, at, inner);
-    let sifted = filter_type(s, inner, levels, false, mask, leaf, w, start);
-    let Sifted::Nested(reach) = sifted else {
-        return sifted;
-    };
-    Sifted::Nested(unless_nothing(reach, pos, start))
+    let reach = filter_type(s, inner, levels, false, mask, leaf, w, start)?;
+    Some(unless_nothing(reach, pos, start))
 }
 
 // A type that holds fields: its code and parameters, and what is left of its children.

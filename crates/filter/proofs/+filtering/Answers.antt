@@ -31,17 +31,17 @@ filter_encoded-returns-then-code-eq-RUN_END_ENCODED t c = runs_filtered _ _ _ c.
 pub filter_encoded-returns : goal.filter_encoded-returns
 filter_encoded-returns t c = others_encoded _ _ _ c.if-code-eq-DICTIONARY.false c.if-code-eq-RUN_END_ENCODED.false
 
-pub filter_field-returns-in-Leaf : goal.filter_field-returns-in-Leaf
-filter_field-returns-in-Leaf t c = field_leaf _ _ c.skip_head-body.ensures c.put_part-start.ensures c.filter_type-sifted.ensures c.in-Leaf.is c.skip_type-end.ensures c.filter_leaf.ensures
+pub filter_field-returns-in-None : goal.filter_field-returns-in-None
+filter_field-returns-in-None t c = field_leaf _ _ c.skip_head-body.ensures c.put_part-start.ensures c.filter_type-sifted.ensures c.in-None.is c.skip_type-end.ensures c.filter_leaf.ensures
 
-pub filter_field-returns-in-Nested : goal.filter_field-returns-in-Nested
-filter_field-returns-in-Nested t c = field_nested _ _ c.skip_head-body.ensures c.put_part-start.ensures c.filter_type-sifted.ensures c.in-Nested.is c.unless_nothing.ensures
+pub filter_field-returns-in-Some : goal.filter_field-returns-in-Some
+filter_field-returns-in-Some t c = field_nested _ _ c.skip_head-body.ensures c.put_part-start.ensures c.filter_type-sifted.ensures c.in-Some.is c.unless_nothing.ensures
 
-pub filter_inner-returns-in_default : goal.filter_inner-returns-in_default
-filter_inner-returns-in_default t c = inner_leaf _ _ c.put_part-start.ensures c.filter_type-sifted.ensures c.in_default.is
+pub filter_inner-returns-in_err-reach : goal.filter_inner-returns-in_err-reach
+filter_inner-returns-in_err-reach t c = inner_leaf _ _ c.put_part-start.ensures c.filter_type.ensures c.in_err-reach.was c.from_residual.ensures
 
 pub filter_inner-returns : goal.filter_inner-returns
-filter_inner-returns t c = inner_nested _ _ c.put_part-start.ensures c.filter_type-sifted.ensures c.in-Nested.is c.unless_nothing.ensures
+filter_inner-returns t c = inner_nested _ _ c.put_part-start.ensures c.filter_type.ensures c.in_ok-reach.was c.unless_nothing.ensures
 
 pub filter_nested-returns : goal.filter_nested-returns
 filter_nested-returns t c = nested_filtered _ _ _ c.ahead-params.ensures c.skip_params-children.ensures c.put_part-start.ensures c.filter_children-reach.ensures c.unless_nothing.ensures
