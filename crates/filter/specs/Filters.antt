@@ -159,7 +159,7 @@ FiltersCounted s place before levels mask next w p w' r =
 abbrev pub FiltersRow : (s : Bytes) (place count before levels : ℕ) (mask : Bytes) (next : ℕ) (w : Bytes) (p : ℕ) (w' : Bytes) (r : Row) → Type 0
 FiltersRow s place count before levels mask next w p w' r =
     (l : ℕ) (front : Head → Bytes) (ks : List (Field l)) → ((h : Head) → length (front h) ≡ before) → l ≤ levels → length ks ≡ count → AllLaidOut l ks
-    → ChildrenFiltered s mask l front ks place next w p 0 r.at r.leaf w' r.written r.kept
+    → ChildrenFiltered s mask l front ks place next w p 0 r.reach.at r.reach.leaf w' r.reach.written r.kept
 
 abbrev pub FiltersChild : (s : Bytes) (place before levels : ℕ) (mask : Bytes) (next : ℕ) (w : Bytes) (p : ℕ) (w' : Bytes) (r : Reach) → Type 0
 FiltersChild s place before levels mask next w p w' r =

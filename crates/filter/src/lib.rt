@@ -3,9 +3,7 @@
 // what it keeps where the part that it is for stands there.
 #![tactic(auto)]
 
-ghost use Rattle.std.specs.Prelude.{◌≡◌, ◌+◌, ◌≤◌, ◌<◌, eqb};
-ghost use Rattle.model.specs.Numbers.{max_sheet_bytes};
-ghost use Rattle.model.specs.Bytes.{choose};
+ghost use Rattle.std.specs.Prelude.{◌≡◌};
 ghost use Rattle.model.specs.Call.{filter_call};
 ghost use Rattle.buffer.specs.Leaves.{leaves};
 ghost use Rattle.filter.specs.Filters.{FiltersLeaf, FiltersType, FiltersField, FiltersChild, FiltersRow, FiltersCounted, FiltersChildren, FiltersNested, FiltersInner, FiltersEncoded, FiltersSheet, FiltersColumns, unless_nothing};
@@ -33,89 +31,65 @@ struct Reach {
     written: usize,
 }
 
+impl Reach {
+    // Where nothing was kept behind the start, what was written before it is taken back: "A nested type with no leaf left vanishes."
+    fn unless_nothing(self, from: usize, start: usize) -> Self
+        ensures { result ≡ unless_nothing from start self }
+    {
+        if self.written == start {
+            return Self {
+                written: from,
+                ..self
+            };
+        }
+        self
+    }
+}
+
 // How far a walk over children came, and how many were kept.
 #[derive(Clone, Copy)]
 struct Row {
-    at: usize,
-    leaf: usize,
-    written: usize,
+    reach: Reach,
     kept: usize,
 }
 
-// Where nothing was kept behind the start, what was written before it is taken back: "A nested type with no leaf left vanishes."
-fn unless_nothing(reach: Reach, from: usize, start: usize) -> Reach
-    ensures { result ≡ unless_nothing from start reach }
+// "Mask byte i keeps leaf i unless 0." A field that is a leaf stands between the two places. Behind the mask's end nothing is kept. A sheet
+// has fewer leaves than bytes, so their number never stops at the largest.
+fn filter_leaf(s: &[u8], from: Reach, end: usize, mask: &[u8], w: &mut [u8]) -> Reach
+    ensures { FiltersLeaf s.now from.at end mask.now from.leaf w.old from.written w.new result }
 {
-    if reach.written == start {
-        return Reach {
-            at: reach.at,
-            leaf: reach.leaf,
-            written: from,
-        };
-    }
-    reach
-}
-
-// The number of the leaf after this one. A sheet has fewer leaves than bytes, so the last number does not come about.
-fn next_leaf(leaf: usize) -> usize
-    ensures { leaf < max_sheet_bytes → result ≡ leaf + 1 }
-{
-    if 65535 <= leaf {
-        return leaf;
-    }
-    leaf + 1
-}
-
-// "Mask byte i keeps leaf i unless 0." A field that is a leaf stands between the two places. Behind the mask's end nothing is kept.
-fn filter_leaf(
-    s: &[u8],
-    at: usize,
-    end: usize,
-    mask: &[u8],
-    leaf: usize,
-    w: &mut [u8],
-    pos: usize,
-) -> Reach
-    ensures { FiltersLeaf s.now at end mask.now leaf w.old pos w.new result }
-{
-    let next = next_leaf(leaf);
-    if walk::byte(mask, leaf) == 0 {
-        return Reach {
-            at: end,
-            leaf: next,
-            written: pos,
-        };
-    }
-    let written = walk::put_part(w, pos, s, at, end);
-    Reach {
+    let next = Reach {
         at: end,
-        leaf: next,
-        written,
+        leaf: from.leaf.saturating_add(1),
+        ..from
+    };
+    if walk::byte(mask, from.leaf) == 0 {
+        return next;
+    }
+    Reach {
+        written: walk::put_part(w, from.written, s, from.at, end),
+        ..next
     }
 }
 
 // `filter_field`: the field with what is left of its type, or the leaf that it is.
 #[cycle(filtering)]
-fn filter_field(
-    s: &[u8],
-    at: usize,
-    levels: usize,
-    mask: &[u8],
-    leaf: usize,
-    w: &mut [u8],
-    pos: usize,
-) -> Reach
-    ensures { FiltersField s.now at levels mask.now leaf w.old pos w.new result }
+fn filter_field(s: &[u8], from: Reach, levels: usize, mask: &[u8], w: &mut [u8]) -> Reach
+    ensures { FiltersField s.now from.at levels mask.now from.leaf w.old from.written w.new result }
 {
-    let body = walk::skip_head(s, at);
-    let start = walk::put_part(w, pos, s, at, body);
-    let sifted = filter_type(s, body, levels, true, mask, leaf, w, start);
-    match sifted {
+    let body = walk::skip_head(s, from.at);
+    let start = walk::put_part(w, from.written, s, from.at, body);
+    let data_type = Reach {
+        at: body,
+        written: start,
+        ..from
+    };
+    match filter_type(s, data_type, levels, true, mask, w) {
         None => {
             let end = walk::skip_type(s, body, levels);
-            filter_leaf(s, at, end, mask, leaf, w, pos)
+            filter_leaf(s, from, end, mask, w)
         }
-        Some(reach) => unless_nothing(reach, pos, start),
+        Some(reach) => reach.unless_nothing(from.written, start),
     }
 }
 
@@ -125,53 +99,48 @@ fn filter_field(
 #[cycle(filtering)]
 fn filter_type(
     s: &[u8],
-    at: usize,
+    from: Reach,
     levels: usize,
     through: bool,
     mask: &[u8],
-    leaf: usize,
     w: &mut [u8],
-    pos: usize,
 ) -> Option<Reach>
-    ensures { FiltersType s.now at levels through mask.now leaf w.old pos w.new result }
+    ensures { FiltersType s.now from.at levels through mask.now from.leaf w.old from.written w.new result }
 {
     if levels <= 0 {
         return None;
     }
-    let code = walk::byte(s, at);
+    let code = walk::byte(s, from.at);
     if walk::holds_fields(code) {
-        let reach = filter_nested(s, at, code, levels - 1, mask, leaf, w, pos);
-        return Some(reach);
+        return Some(filter_nested(s, from, code, levels - 1, mask, w));
     }
     if !through {
         return None;
     }
-    filter_encoded(s, at, code, levels - 1, mask, leaf, w, pos)
+    filter_encoded(s, from, code, levels - 1, mask, w)
 }
 
 // A Dictionary or RunEndEncoded is what the type of its second child is. All others have no leaf below them.
 #[cycle(filtering)]
 fn filter_encoded(
     s: &[u8],
-    at: usize,
+    from: Reach,
     code: usize,
     levels: usize,
     mask: &[u8],
-    leaf: usize,
     w: &mut [u8],
-    pos: usize,
 ) -> Option<Reach>
-    ensures { FiltersEncoded s.now at code levels mask.now leaf w.old pos w.new result }
+    ensures { FiltersEncoded s.now from.at code levels mask.now from.leaf w.old from.written w.new result }
 {
-    let first = walk::ahead(s, at, 1);
+    let first = walk::ahead(s, from.at, 1);
     if code == DICTIONARY {
         let value = walk::skip_type(s, first, levels);
-        return filter_inner(s, at, value, levels, mask, leaf, w, pos);
+        return filter_inner(s, from, value, levels, mask, w);
     }
     if code == RUN_END_ENCODED {
         let values = walk::skip_field(s, first, levels);
         let body = walk::skip_head(s, values);
-        return filter_inner(s, at, body, levels, mask, leaf, w, pos);
+        return filter_inner(s, from, body, levels, mask, w);
     }
     None
 }
@@ -180,163 +149,149 @@ fn filter_encoded(
 #[cycle(filtering)]
 fn filter_inner(
     s: &[u8],
-    at: usize,
+    from: Reach,
     inner: usize,
     levels: usize,
     mask: &[u8],
-    leaf: usize,
     w: &mut [u8],
-    pos: usize,
 ) -> Option<Reach>
-    ensures { FiltersInner s.now at inner levels mask.now leaf w.old pos w.new result }
+    ensures { FiltersInner s.now from.at inner levels mask.now from.leaf w.old from.written w.new result }
 {
-    let start = walk::put_part(w, pos, s, at, inner);
-    let reach = filter_type(s, inner, levels, false, mask, leaf, w, start)?;
-    Some(unless_nothing(reach, pos, start))
+    let start = walk::put_part(w, from.written, s, from.at, inner);
+    let data_type = Reach {
+        at: inner,
+        written: start,
+        ..from
+    };
+    let reach = filter_type(s, data_type, levels, false, mask, w)?;
+    Some(reach.unless_nothing(from.written, start))
 }
 
 // A type that holds fields: its code and parameters, and what is left of its children.
 #[cycle(filtering)]
 fn filter_nested(
     s: &[u8],
-    at: usize,
+    from: Reach,
     code: usize,
     levels: usize,
     mask: &[u8],
-    leaf: usize,
     w: &mut [u8],
-    pos: usize,
 ) -> Reach
-    ensures { FiltersNested s.now at code levels mask.now leaf w.old pos w.new result }
+    ensures { FiltersNested s.now from.at code levels mask.now from.leaf w.old from.written w.new result }
 {
-    let params = walk::ahead(s, at, 1);
+    let params = walk::ahead(s, from.at, 1);
     let children = walk::skip_params(s, params, code);
-    let start = walk::put_part(w, pos, s, at, children);
-    let reach = filter_children(s, children, code, levels, mask, leaf, w, start);
-    unless_nothing(reach, pos, start)
+    let start = walk::put_part(w, from.written, s, from.at, children);
+    let first = Reach {
+        at: children,
+        written: start,
+        ..from
+    };
+    let reach = filter_children(s, first, code, levels, mask, w);
+    reach.unless_nothing(from.written, start)
 }
 
 // The children of such a type. One that is no Struct and no Union has one field.
 #[cycle(filtering)]
 fn filter_children(
     s: &[u8],
-    at: usize,
+    from: Reach,
     code: usize,
     levels: usize,
     mask: &[u8],
-    leaf: usize,
     w: &mut [u8],
-    pos: usize,
 ) -> Reach
-    ensures { FiltersChildren s.now at code levels mask.now leaf w.old pos w.new result }
+    ensures { FiltersChildren s.now from.at code levels mask.now from.leaf w.old from.written w.new result }
 {
     if code == STRUCT {
-        return filter_counted(s, at, 0, levels, mask, leaf, w, pos);
+        return filter_counted(s, from, 0, levels, mask, w);
     }
     if code == UNION {
-        return filter_counted(s, at, 1, levels, mask, leaf, w, pos);
+        return filter_counted(s, from, 1, levels, mask, w);
     }
-    filter_field(s, at, levels, mask, leaf, w, pos)
+    filter_field(s, from, levels, mask, w)
 }
 
 // A count, and as many children with so many bytes before each. How many are kept is known at the end, and written over the place held.
 #[cycle(filtering)]
 fn filter_counted(
     s: &[u8],
-    at: usize,
+    from: Reach,
     before: usize,
     levels: usize,
     mask: &[u8],
-    leaf: usize,
     w: &mut [u8],
-    pos: usize,
 ) -> Reach
-    ensures { FiltersCounted s.now at before levels mask.now leaf w.old pos w.new result }
+    ensures { FiltersCounted s.now from.at before levels mask.now from.leaf w.old from.written w.new result }
 {
-    let first = walk::ahead(s, at, 2);
-    let count = walk::two(s, at);
-    let start = buffer::put_two(w, pos, 0);
-    let row = filter_row(s, first, count, before, levels, mask, leaf, w, start);
-    buffer::put_two(w, pos, row.kept);
-    let reach = Reach {
-        at: row.at,
-        leaf: row.leaf,
-        written: row.written,
+    let count = walk::two(s, from.at);
+    let start = buffer::put_two(w, from.written, 0);
+    let first = Reach {
+        at: walk::ahead(s, from.at, 2),
+        written: start,
+        ..from
     };
-    unless_nothing(reach, pos, start)
+    let row = filter_row(s, first, count, before, levels, mask, w);
+    buffer::put_two(w, from.written, row.kept);
+    row.reach.unless_nothing(from.written, start)
 }
 
-// How many children were kept between the positions before and behind one: 1 where something was written, else 0.
-fn kept_one(before: usize, behind: usize) -> usize
-    ensures { (result ≡ choose (eqb behind before) (λ u. 0) λ u. 1) × (result ≤ 1) }
-{
-    if behind == before {
-        return 0;
-    }
-    1
-}
-
-// So many children, one behind the other, and how many of them are kept.
+// So many children, one behind the other, and how many of them are kept: those that something was written of.
 #[cycle(filtering)]
 fn filter_row(
     s: &[u8],
-    at: usize,
+    from: Reach,
     count: usize,
     before: usize,
     levels: usize,
     mask: &[u8],
-    leaf: usize,
     w: &mut [u8],
-    pos: usize,
 ) -> Row
-    ensures { FiltersRow s.now at count before levels mask.now leaf w.old pos w.new result }
+    ensures { FiltersRow s.now from.at count before levels mask.now from.leaf w.old from.written w.new result }
 {
-    let mut place = at;
-    let mut next = leaf;
-    let mut written = pos;
+    let mut reach = from;
     let mut kept = 0;
-    let mut left = count;
-    while 0 < left {
-        let reach = filter_child(s, place, before, levels, mask, next, w, written);
-        kept += kept_one(written, reach.written);
-        place = reach.at;
-        next = reach.leaf;
-        written = reach.written;
-        left -= 1;
+    for _ in 0..count {
+        let next = filter_child(s, reach, before, levels, mask, w);
+        kept += usize::from(next.written != reach.written);
+        reach = next;
     }
-    Row {
-        at: place,
-        leaf: next,
-        written,
-        kept,
-    }
+    Row { reach, kept }
 }
 
 // A child with so many bytes before it: a union's child has its id there, others nothing.
 #[cycle(filtering)]
 fn filter_child(
     s: &[u8],
-    at: usize,
+    from: Reach,
     before: usize,
     levels: usize,
     mask: &[u8],
-    leaf: usize,
     w: &mut [u8],
-    pos: usize,
 ) -> Reach
-    ensures { FiltersChild s.now at before levels mask.now leaf w.old pos w.new result }
+    ensures { FiltersChild s.now from.at before levels mask.now from.leaf w.old from.written w.new result }
 {
-    let field = walk::ahead(s, at, before);
-    let start = walk::put_part(w, pos, s, at, field);
-    let reach = filter_field(s, field, levels, mask, leaf, w, start);
-    unless_nothing(reach, pos, start)
+    let field = walk::ahead(s, from.at, before);
+    let start = walk::put_part(w, from.written, s, from.at, field);
+    let first = Reach {
+        at: field,
+        written: start,
+        ..from
+    };
+    let reach = filter_field(s, first, levels, mask, w);
+    reach.unless_nothing(from.written, start)
 }
 
 // The columns, whose count stands at a place. Where none is kept, the map at the start of what is written loses its bit.
 fn filter_columns(s: &[u8], at: usize, mask: &[u8], w: &mut [u8], pos: usize) -> Reach
     ensures { FiltersColumns s.now at mask.now w.old pos w.new result }
 {
-    let reach = filter_counted(s, at, 0, Cursor::LEVELS, mask, 0, w, pos);
+    let first = Reach {
+        at,
+        leaf: 0,
+        written: pos,
+    };
+    let reach = filter_counted(s, first, 0, Cursor::LEVELS, mask, w);
     if reach.written == pos {
         let map = walk::byte(s, 0) % 2;
         buffer::put_one(w, 0, map as u8);

@@ -1,6 +1,6 @@
 -- Fields, types and their children. The levels left fall from a type to its children, and each function calls on one that stands before it at equal levels.
 use mathlib.Core.Path.{◌≡◌}
-use Prim.Native.Nat.{ℕ, ◌≤◌, ◌+◌, ◌*◌}
+use Prim.Native.Nat.{ℕ, ◌≤◌, ◌+◌, ◌*◌, ◌-◌}
 use lib.ListN.{length}
 use Rattle.model.specs.Bytes.{Bytes}
 use Rattle.model.specs.Tree.{Head}
@@ -34,8 +34,5 @@ decreases-filter_row l = 8 * l.levels + 3
 abbrev pub decreases-filter_type : goal.decreases-filter_type
 decreases-filter_type l = 8 * l.levels + 0
 
-abbrev pub invariant-filter_row-loop-left : goal.invariant-filter_row-loop-left
-invariant-filter_row-loop-left v = (length v.w ≡ length v.initial.w) × (v.kept + v.left ≤ v.count) × ((l : ℕ) (front : Head → Bytes) → ((h : Head) → length (front h) ≡ v.before) → l ≤ v.levels → Turns l front v.s v.mask v.at v.count v.leaf v.initial.w v.pos v.place v.left v.next v.w v.written v.kept)
-
-abbrev pub decreases-filter_row-loop-left : goal.decreases-filter_row-loop-left
-decreases-filter_row-loop-left l = l.left
+abbrev pub invariant-filter_row-loop : goal.invariant-filter_row-loop
+invariant-filter_row-loop v = (length v.w ≡ length v.initial.w) × (v.kept ≤ v.counter) × ((l : ℕ) (front : Head → Bytes) → ((h : Head) → length (front h) ≡ v.before) → l ≤ v.levels → Turns l front v.s v.mask v.fn.from.at v.count v.fn.from.leaf v.initial.w v.fn.from.written v.reach.at (v.count - v.counter) v.reach.leaf v.w v.reach.written v.kept)
