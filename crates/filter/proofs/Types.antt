@@ -22,9 +22,9 @@ use Rattle.walk.proofs.Standing.{first_stands, second_stands, skip_ahead, skip_j
 use Rattle.walk.proofs.Parts.{Ahead}
 use Rattle.walk.proofs.Descents.{code_stands}
 use Rattle.filter.specs.declared.Reach.{Reach}
-use Rattle.filter.specs.Filters.{first_bytes, Sifts, alone, below, unless_nothing, TypeSifted, InnerSifted, KindFiltered, HolderFiltered, FiltersType, FiltersField, FiltersCounted, FiltersChildren, FiltersNested, FiltersInner, FiltersEncoded, leaves_of, leaves_of_all, kept_of, kept_of_all}
+use Rattle.filter.specs.Filters.{CopiesTo, first_bytes, Sifts, alone, below, unless_nothing, TypeSifted, InnerSifted, KindFiltered, HolderFiltered, FiltersType, FiltersField, FiltersCounted, FiltersChildren, FiltersNested, FiltersInner, FiltersEncoded, leaves_of, leaves_of_all, kept_of, kept_of_all}
 use Rattle.filter.proofs.Walking.{filters_none, filters_as, filters_copied, filters_fronted, filters_undone}
-use Rattle.filter.proofs.Fields.{part_some, type_some, field_some, Copies}
+use Rattle.filter.proofs.Fields.{part_some, type_some, field_some}
 
 -- The children of a type that holds fields
 
@@ -91,19 +91,20 @@ nested_kept l t [] = refl
 nested_kept l t (k ∷ ks) =
     part_some (λ k. (t.code ∷ t.params) ++ k) (children_bytes (type_bytes l) (layout t.code).children (k ∷ ks)) (children_some l (layout t.code).children k ks)
 
-module _ {s : Bytes} {place : ℕ} (code levels : ℕ) (mask : Bytes) {next : ℕ} {w : Bytes} {p : ℕ} {w₁ : Bytes} {start : ℕ} {w₂ : Bytes} {reach o : Reach} where
-  pub nested_filtered : {params children : ℕ} → Ahead s place 1 params → ((b : Bytes) → WellFormedParams (layout code).params b → Skips s params b children)
-      → Copies s place children w p w₁ start → FiltersChildren s children code levels mask next w₁ start w₂ reach → o ≡ unless_nothing p start reach
-      → FiltersNested s place code levels mask next w p w₂ o
+module _ {s : Bytes} {from : Reach} (code levels : ℕ) (mask : Bytes) {w w₁ : Bytes} {start : Reach} {w₂ : Bytes} {reach o : Reach} where
+  pub nested_filtered : {params children : ℕ} → Ahead s from.at 1 params → ((b : Bytes) → WellFormedParams (layout code).params b → Skips s params b children)
+      → CopiesTo s from children w w₁ start → FiltersChildren s start.at code levels mask start.leaf w₁ start.written w₂ reach
+      → o ≡ unless_nothing from.written start.written reach → FiltersNested s from.at code levels mask from.leaf w from.written w₂ o
   unfolding type_bytes
-  nested_filtered {params} {children} a f put g u l t h e c z =
+  nested_filtered {params} {children} a f copy g u l t h e c z =
+      let filtered = subst (λ y. FiltersChildren s y.at code levels mask y.leaf w₁ y.written w₂ reach) copy.behind g in
       let kids = subst (λ c. holds_fields c ≡ true → CountFits (layout c).children t.children → AllLaidOut l t.children
-      → KindFiltered s mask l (layout c).children t.children children next w₁ start w₂ reach)
-      e (g l t.children h) in
-      subst (HolderFiltered s mask l t place next w p w₂)
+      → KindFiltered s mask l (layout c).children t.children children from.leaf w₁ start.written w₂ reach)
+      e (filtered l t.children h) in
+      subst (HolderFiltered s mask l t from.at from.leaf w from.written w₂)
       (sym u)
-      (filters_as refl refl (nested_kept l t (kept_of_all l t.children (drop next mask)))
-      (filters_fronted (filters_copied (t.code ∷ t.params) (front_skips code a f l t e z) put) (kids (sym (ap holds_fields e) ∙ c) z.1 z.2)))
+      (filters_as refl refl (nested_kept l t (kept_of_all l t.children (drop from.leaf mask)))
+      (filters_fronted (filters_copied (t.code ∷ t.params) (front_skips code a f l t e z) copy.puts) (kids (sym (ap holds_fields e) ∙ c) z.1 z.2)))
 
 -- A type and what stands before it
 
@@ -111,26 +112,29 @@ inner_kept : (l : ℕ) (a : Bytes) (ts : List (DataType l)) → part (λ k. a ++
 inner_kept l a [] = refl
 inner_kept l a (t ∷ ts) = part_some (λ k. a ++ k) (type_bytes l t) (type_some l t)
 
-module _ {s : Bytes} {place inner : ℕ} (levels : ℕ) (mask : Bytes) {next : ℕ} {w : Bytes} {p : ℕ} {w₁ : Bytes} {start : ℕ} {w₂ : Bytes} {r : Option Reach}
-    (put : Copies s place inner w p w₁ start) (type : FiltersType s inner levels false mask next w₁ start w₂ r) where
-  pub inner_leaf : {o : Option Reach} → r ≡ None → o ≡ None → FiltersInner s place inner levels mask next w p w₂ o
-  inner_leaf {o} e u l t a h z i st = go (type l t h z (subst (λ n. Stands s n (type_bytes l t)) (sym i) (second_stands a (type_bytes l t) st)))
+module _ {s : Bytes} {from : Reach} {inner : ℕ} (levels : ℕ) (mask : Bytes) {w w₁ : Bytes} {start : Reach} {w₂ : Bytes} {r : Option Reach}
+    (copy : CopiesTo s from inner w w₁ start) (type : FiltersType s start.at levels false mask start.leaf w₁ start.written w₂ r) where
+  type_filtered : FiltersType s inner levels false mask from.leaf w₁ start.written w₂ r
+  type_filtered = subst (λ y. FiltersType s y.at levels false mask y.leaf w₁ y.written w₂ r) copy.behind type
+
+  pub inner_leaf : {o : Option Reach} → r ≡ None → o ≡ None → FiltersInner s from.at inner levels mask from.leaf w from.written w₂ o
+  inner_leaf {o} e u l t a h z i st = go (type_filtered l t h z (subst (λ n. Stands s n (type_bytes l t)) (sym i) (second_stands a (type_bytes l t) st)))
     where
-      go : TypeSifted s mask l false t inner next w₁ start w₂ r
-          → InnerSifted s mask l a t place next w p w₂ o
-      go (alone x y v d) = alone x y u (filters_undone a (type_bytes l t) st (filters_copied a (record { behind = λ u. i }) put) d)
+      go : TypeSifted s mask l false t inner from.leaf w₁ start.written w₂ r
+          → InnerSifted s mask l a t from.at from.leaf w from.written w₂ o
+      go (alone x y v d) = alone x y u (filters_undone a (type_bytes l t) st (filters_copied a (record { behind = λ u. i }) copy.puts) d)
       go (below ts rest n to x y v d) = let z : ◌≡◌ {A = ℕ} 0 1 = cc in absurd (omega (arith, z))
 
-  pub inner_nested : {reach o : Reach} → r ≡ Some reach → o ≡ unless_nothing p start reach → FiltersInner s place inner levels mask next w p w₂ (Some o)
-  inner_nested {reach} {o} e u l t a h z i st = go (type l t h z (subst (λ n. Stands s n (type_bytes l t)) (sym i) (second_stands a (type_bytes l t) st)))
+  pub inner_nested : {reach o : Reach} → r ≡ Some reach → o ≡ unless_nothing from.written start.written reach → FiltersInner s from.at inner levels mask from.leaf w from.written w₂ (Some o)
+  inner_nested {reach} {o} e u l t a h z i st = go (type_filtered l t h z (subst (λ n. Stands s n (type_bytes l t)) (sym i) (second_stands a (type_bytes l t) st)))
     where
-      go : TypeSifted s mask l false t inner next w₁ start w₂ r
-          → InnerSifted s mask l a t place next w p w₂ (Some o)
+      go : TypeSifted s mask l false t inner from.leaf w₁ start.written w₂ r
+          → InnerSifted s mask l a t from.at from.leaf w from.written w₂ (Some o)
       go (alone x y v d) = let z : ◌≡◌ {A = ℕ} 0 1 = cc in absurd (omega (arith, z))
       go (below ts rest n to x y v d) =
           let same : to ≡ reach = cc in
-          below ts rest n (unless_nothing p start to) x y (ap Some (u ∙ sym (ap (unless_nothing p start) same)))
-          (filters_as refl refl (inner_kept l a ts) (filters_fronted (filters_copied a (record { behind = λ u. i }) put) d))
+          below ts rest n (unless_nothing from.written start.written to) x y (ap Some (u ∙ sym (ap (unless_nothing from.written start.written) same)))
+          (filters_as refl refl (inner_kept l a ts) (filters_fronted (filters_copied a (record { behind = λ u. i }) copy.puts) d))
 
 -- A Dictionary or RunEndEncoded that is looked through
 

@@ -8,6 +8,7 @@ use Rattle.model.specs.Sheet.{each, part, stands, with_count, column_bytes, fiel
 use Rattle.model.specs.WellFormed.{CountFits, LaidOut, WellFormedSchema}
 use Rattle.model.specs.Datatype.{holds_fields}
 use Rattle.model.specs.Filter.{Filtered, Leaves, filter_each, filter_field, filter_type, field_leaf_count, leaf_count_of_each, type_leaf_count, leaf_count, filter_columns}
+use Rattle.buffer.specs.Puts.{Puts}
 use Rattle.walk.specs.Stands.{Stands, Skips, AllLaidOut}
 use Rattle.filter.specs.declared.Reach.{Reach}
 use Rattle.filter.specs.declared.Row.{Row}
@@ -40,6 +41,11 @@ pub record Filters (s b : Bytes) (n : ℕ) (k : Bytes) (place next : ℕ) (w : B
 -- so far as a reach says
 abbrev pub FiltersTo : (s b : Bytes) (n : ℕ) (k : Bytes) (place next : ℕ) (w : Bytes) (p : ℕ) (w' : Bytes) (r : Reach) → Type 0
 FiltersTo s b n k place next w p w' r = Filters s b n k place next w p r.at r.leaf w' r.written
+
+-- what stands up to a place is written as it is, and no leaf is counted in it
+pub record CopiesTo (s : Bytes) (from : Reach) (to : ℕ) (w w' : Bytes) (r : Reach) : Type 0 where
+  pub behind : r ≡ record { at = to; leaf = from.leaf; written = r.written }
+  pub puts : (b : Bytes) → Stands s from.at b → to ≡ from.at + length b → Puts b w from.written w' r.written
 
 -- where nothing was written behind the start, what was written before it is taken back: the position is where that began
 abbrev pub unless_nothing : (from start : ℕ) → Reach → Reach

@@ -6,7 +6,7 @@
 ghost use Rattle.std.specs.Prelude.{◌≡◌};
 ghost use Rattle.model.specs.Call.{filter_call};
 ghost use Rattle.buffer.specs.Leaves.{leaves};
-ghost use Rattle.filter.specs.Filters.{FiltersLeaf, FiltersType, FiltersField, FiltersChild, FiltersRow, FiltersCounted, FiltersChildren, FiltersNested, FiltersInner, FiltersEncoded, FiltersSheet, FiltersColumns, unless_nothing};
+ghost use Rattle.filter.specs.Filters.{CopiesTo, FiltersLeaf, FiltersType, FiltersField, FiltersChild, FiltersRow, FiltersCounted, FiltersChildren, FiltersNested, FiltersInner, FiltersEncoded, FiltersSheet, FiltersColumns, unless_nothing};
 
 use buffer::Outcome;
 use sheet::{Cursor, Step};
@@ -33,12 +33,12 @@ struct Reach {
 
 impl Reach {
     // Where nothing was kept behind the start, what was written before it is taken back: "A nested type with no leaf left vanishes."
-    fn unless_nothing(self, from: usize, start: usize) -> Self
-        ensures { result ≡ unless_nothing from start self }
+    fn unless_nothing(self, from: Self, start: Self) -> Self
+        ensures { result ≡ unless_nothing from.written start.written self }
     {
-        if self.written == start {
+        if self.written == start.written {
             return Self {
-                written: from,
+                written: from.written,
                 ..self
             };
         }
@@ -53,233 +53,178 @@ struct Row {
     kept: usize,
 }
 
-// "Mask byte i keeps leaf i unless 0." A field that is a leaf stands between the two places. Behind the mask's end nothing is kept. A sheet
-// has fewer leaves than bytes, so their number never stops at the largest.
-fn filter_leaf(s: &[u8], from: Reach, end: usize, mask: &[u8], w: &mut [u8]) -> Reach
-    ensures { FiltersLeaf s.now from.at end mask.now from.leaf w.old from.written w.new result }
-{
-    let next = Reach {
-        at: end,
-        leaf: from.leaf.saturating_add(1),
-        ..from
-    };
-    if walk::byte(mask, from.leaf) == 0 {
-        return next;
-    }
-    Reach {
-        written: walk::put_part(w, from.written, s, from.at, end),
-        ..next
-    }
+// What is filtered, a sheet, and by what: a mask, whose bytes are those of the leaves.
+#[derive(Clone, Copy)]
+struct Sieve<'a> {
+    s: &'a [u8],
+    mask: &'a [u8],
 }
 
-// `filter_field`: the field with what is left of its type, or the leaf that it is.
-#[cycle(filtering)]
-fn filter_field(s: &[u8], from: Reach, levels: usize, mask: &[u8], w: &mut [u8]) -> Reach
-    ensures { FiltersField s.now from.at levels mask.now from.leaf w.old from.written w.new result }
-{
-    let body = walk::skip_head(s, from.at);
-    let start = walk::put_part(w, from.written, s, from.at, body);
-    let data_type = Reach {
-        at: body,
-        written: start,
-        ..from
-    };
-    match filter_type(s, data_type, levels, true, mask, w) {
-        None => {
-            let end = walk::skip_type(s, body, levels);
-            filter_leaf(s, from, end, mask, w)
+impl Sieve<'_> {
+    // Copies what stands up to a place, which has no leaf that is not counted yet.
+    fn copy_to(&self, from: Reach, to: usize, w: &mut [u8]) -> Reach
+        ensures { CopiesTo self.now.s.now from to w.old w.new result }
+    {
+        Reach {
+            at: to,
+            written: walk::put_part(w, from.written, self.s, from.at, to),
+            ..from
         }
-        Some(reach) => reach.unless_nothing(from.written, start),
     }
-}
 
-// `filter_field`, its matches on the type, of at most so many levels: how far it was gone over, and what was kept of it written; or None,
-// where it has no leaf below it, so that its field is one itself. "One Dictionary or RunEndEncoded is looked through, not two": `through`
-// says that none was yet.
-#[cycle(filtering)]
-fn filter_type(
-    s: &[u8],
-    from: Reach,
-    levels: usize,
-    through: bool,
-    mask: &[u8],
-    w: &mut [u8],
-) -> Option<Reach>
-    ensures { FiltersType s.now from.at levels through mask.now from.leaf w.old from.written w.new result }
-{
-    if levels <= 0 {
-        return None;
+    // "Mask byte i keeps leaf i unless 0." A field that is a leaf stands between the two places. Behind the mask's end nothing is kept. A sheet
+    // has fewer leaves than bytes, so their number never stops at the largest.
+    fn filter_leaf(&self, from: Reach, end: usize, w: &mut [u8]) -> Reach
+        ensures { FiltersLeaf self.now.s.now from.at end self.now.mask.now from.leaf w.old from.written w.new result }
+    {
+        let counted = Reach {
+            leaf: from.leaf.saturating_add(1),
+            ..from
+        };
+        if walk::byte(self.mask, from.leaf) == 0 {
+            return Reach { at: end, ..counted };
+        }
+        self.copy_to(counted, end, w)
     }
-    let code = walk::byte(s, from.at);
-    if walk::holds_fields(code) {
-        return Some(filter_nested(s, from, code, levels - 1, mask, w));
-    }
-    if !through {
-        return None;
-    }
-    filter_encoded(s, from, code, levels - 1, mask, w)
-}
 
-// A Dictionary or RunEndEncoded is what the type of its second child is. All others have no leaf below them.
-#[cycle(filtering)]
-fn filter_encoded(
-    s: &[u8],
-    from: Reach,
-    code: usize,
-    levels: usize,
-    mask: &[u8],
-    w: &mut [u8],
-) -> Option<Reach>
-    ensures { FiltersEncoded s.now from.at code levels mask.now from.leaf w.old from.written w.new result }
-{
-    let first = walk::ahead(s, from.at, 1);
-    if code == DICTIONARY {
-        let value = walk::skip_type(s, first, levels);
-        return filter_inner(s, from, value, levels, mask, w);
+    // `filter_field`: the field with what is left of its type, or the leaf that it is.
+    #[cycle(filtering)]
+    fn filter_field(&self, from: Reach, levels: usize, w: &mut [u8]) -> Reach
+        ensures { FiltersField self.now.s.now from.at levels self.now.mask.now from.leaf w.old from.written w.new result }
+    {
+        let body = walk::skip_head(self.s, from.at);
+        let start = self.copy_to(from, body, w);
+        match self.filter_type(start, levels, true, w) {
+            None => {
+                let end = walk::skip_type(self.s, body, levels);
+                self.filter_leaf(from, end, w)
+            }
+            Some(reach) => reach.unless_nothing(from, start),
+        }
     }
-    if code == RUN_END_ENCODED {
-        let values = walk::skip_field(s, first, levels);
-        let body = walk::skip_head(s, values);
-        return filter_inner(s, from, body, levels, mask, w);
+
+    // `filter_field`, its matches on the type, of at most so many levels: how far it was gone over, and what was kept of it written; or None,
+    // where it has no leaf below it, so that its field is one itself. "One Dictionary or RunEndEncoded is looked through, not two": `through`
+    // says that none was yet.
+    #[cycle(filtering)]
+    fn filter_type(&self, from: Reach, levels: usize, through: bool, w: &mut [u8]) -> Option<Reach>
+        ensures { FiltersType self.now.s.now from.at levels through self.now.mask.now from.leaf w.old from.written w.new result }
+    {
+        if levels <= 0 {
+            return None;
+        }
+        let code = walk::byte(self.s, from.at);
+        if walk::holds_fields(code) {
+            return Some(self.filter_nested(from, code, levels - 1, w));
+        }
+        if !through {
+            return None;
+        }
+        self.filter_encoded(from, code, levels - 1, w)
     }
-    None
-}
 
-// The type that stands at the second place, and what stands before it from the first on, which is kept with it.
-#[cycle(filtering)]
-fn filter_inner(
-    s: &[u8],
-    from: Reach,
-    inner: usize,
-    levels: usize,
-    mask: &[u8],
-    w: &mut [u8],
-) -> Option<Reach>
-    ensures { FiltersInner s.now from.at inner levels mask.now from.leaf w.old from.written w.new result }
-{
-    let start = walk::put_part(w, from.written, s, from.at, inner);
-    let data_type = Reach {
-        at: inner,
-        written: start,
-        ..from
-    };
-    let reach = filter_type(s, data_type, levels, false, mask, w)?;
-    Some(reach.unless_nothing(from.written, start))
-}
-
-// A type that holds fields: its code and parameters, and what is left of its children.
-#[cycle(filtering)]
-fn filter_nested(
-    s: &[u8],
-    from: Reach,
-    code: usize,
-    levels: usize,
-    mask: &[u8],
-    w: &mut [u8],
-) -> Reach
-    ensures { FiltersNested s.now from.at code levels mask.now from.leaf w.old from.written w.new result }
-{
-    let params = walk::ahead(s, from.at, 1);
-    let children = walk::skip_params(s, params, code);
-    let start = walk::put_part(w, from.written, s, from.at, children);
-    let first = Reach {
-        at: children,
-        written: start,
-        ..from
-    };
-    let reach = filter_children(s, first, code, levels, mask, w);
-    reach.unless_nothing(from.written, start)
-}
-
-// The children of such a type. One that is no Struct and no Union has one field.
-#[cycle(filtering)]
-fn filter_children(
-    s: &[u8],
-    from: Reach,
-    code: usize,
-    levels: usize,
-    mask: &[u8],
-    w: &mut [u8],
-) -> Reach
-    ensures { FiltersChildren s.now from.at code levels mask.now from.leaf w.old from.written w.new result }
-{
-    if code == STRUCT {
-        return filter_counted(s, from, 0, levels, mask, w);
+    // A Dictionary or RunEndEncoded is what the type of its second child is. All others have no leaf below them.
+    #[cycle(filtering)]
+    fn filter_encoded(&self, from: Reach, code: usize, levels: usize, w: &mut [u8]) -> Option<Reach>
+        ensures { FiltersEncoded self.now.s.now from.at code levels self.now.mask.now from.leaf w.old from.written w.new result }
+    {
+        let first = walk::ahead(self.s, from.at, 1);
+        if code == DICTIONARY {
+            let value = walk::skip_type(self.s, first, levels);
+            return self.filter_inner(from, value, levels, w);
+        }
+        if code == RUN_END_ENCODED {
+            let values = walk::skip_field(self.s, first, levels);
+            let body = walk::skip_head(self.s, values);
+            return self.filter_inner(from, body, levels, w);
+        }
+        None
     }
-    if code == UNION {
-        return filter_counted(s, from, 1, levels, mask, w);
+
+    // The type that stands at the second place, and what stands before it from the first on, which is kept with it.
+    #[cycle(filtering)]
+    fn filter_inner(&self, from: Reach, inner: usize, levels: usize, w: &mut [u8]) -> Option<Reach>
+        ensures { FiltersInner self.now.s.now from.at inner levels self.now.mask.now from.leaf w.old from.written w.new result }
+    {
+        let start = self.copy_to(from, inner, w);
+        let reach = self.filter_type(start, levels, false, w)?;
+        Some(reach.unless_nothing(from, start))
     }
-    filter_field(s, from, levels, mask, w)
-}
 
-// A count, and as many children with so many bytes before each. How many are kept is known at the end, and written over the place held.
-#[cycle(filtering)]
-fn filter_counted(
-    s: &[u8],
-    from: Reach,
-    before: usize,
-    levels: usize,
-    mask: &[u8],
-    w: &mut [u8],
-) -> Reach
-    ensures { FiltersCounted s.now from.at before levels mask.now from.leaf w.old from.written w.new result }
-{
-    let count = walk::two(s, from.at);
-    let start = buffer::put_two(w, from.written, 0);
-    let first = Reach {
-        at: walk::ahead(s, from.at, 2),
-        written: start,
-        ..from
-    };
-    let row = filter_row(s, first, count, before, levels, mask, w);
-    buffer::put_two(w, from.written, row.kept);
-    row.reach.unless_nothing(from.written, start)
-}
-
-// So many children, one behind the other, and how many of them are kept: those that something was written of.
-#[cycle(filtering)]
-fn filter_row(
-    s: &[u8],
-    from: Reach,
-    count: usize,
-    before: usize,
-    levels: usize,
-    mask: &[u8],
-    w: &mut [u8],
-) -> Row
-    ensures { FiltersRow s.now from.at count before levels mask.now from.leaf w.old from.written w.new result }
-{
-    let mut reach = from;
-    let mut kept = 0;
-    for _ in 0..count {
-        let next = filter_child(s, reach, before, levels, mask, w);
-        kept += usize::from(next.written != reach.written);
-        reach = next;
+    // A type that holds fields: its code and parameters, and what is left of its children.
+    #[cycle(filtering)]
+    fn filter_nested(&self, from: Reach, code: usize, levels: usize, w: &mut [u8]) -> Reach
+        ensures { FiltersNested self.now.s.now from.at code levels self.now.mask.now from.leaf w.old from.written w.new result }
+    {
+        let params = walk::ahead(self.s, from.at, 1);
+        let children = walk::skip_params(self.s, params, code);
+        let start = self.copy_to(from, children, w);
+        let reach = self.filter_children(start, code, levels, w);
+        reach.unless_nothing(from, start)
     }
-    Row { reach, kept }
-}
 
-// A child with so many bytes before it: a union's child has its id there, others nothing.
-#[cycle(filtering)]
-fn filter_child(
-    s: &[u8],
-    from: Reach,
-    before: usize,
-    levels: usize,
-    mask: &[u8],
-    w: &mut [u8],
-) -> Reach
-    ensures { FiltersChild s.now from.at before levels mask.now from.leaf w.old from.written w.new result }
-{
-    let field = walk::ahead(s, from.at, before);
-    let start = walk::put_part(w, from.written, s, from.at, field);
-    let first = Reach {
-        at: field,
-        written: start,
-        ..from
-    };
-    let reach = filter_field(s, first, levels, mask, w);
-    reach.unless_nothing(from.written, start)
+    // The children of such a type. One that is no Struct and no Union has one field.
+    #[cycle(filtering)]
+    fn filter_children(&self, from: Reach, code: usize, levels: usize, w: &mut [u8]) -> Reach
+        ensures { FiltersChildren self.now.s.now from.at code levels self.now.mask.now from.leaf w.old from.written w.new result }
+    {
+        if code == STRUCT {
+            return self.filter_counted(from, 0, levels, w);
+        }
+        if code == UNION {
+            return self.filter_counted(from, 1, levels, w);
+        }
+        self.filter_field(from, levels, w)
+    }
+
+    // A count, and as many children with so many bytes before each. How many are kept is known at the end, and written over the place held.
+    #[cycle(filtering)]
+    fn filter_counted(&self, from: Reach, before: usize, levels: usize, w: &mut [u8]) -> Reach
+        ensures { FiltersCounted self.now.s.now from.at before levels self.now.mask.now from.leaf w.old from.written w.new result }
+    {
+        let count = walk::two(self.s, from.at);
+        let start = Reach {
+            at: walk::ahead(self.s, from.at, 2),
+            written: buffer::put_two(w, from.written, 0),
+            ..from
+        };
+        let row = self.filter_row(start, count, before, levels, w);
+        buffer::put_two(w, from.written, row.kept);
+        row.reach.unless_nothing(from, start)
+    }
+
+    // So many children, one behind the other, and how many of them are kept: those that something was written of.
+    #[cycle(filtering)]
+    fn filter_row(
+        &self,
+        from: Reach,
+        count: usize,
+        before: usize,
+        levels: usize,
+        w: &mut [u8],
+    ) -> Row
+        ensures { FiltersRow self.now.s.now from.at count before levels self.now.mask.now from.leaf w.old from.written w.new result }
+    {
+        let mut reach = from;
+        let mut kept = 0;
+        for _ in 0..count {
+            let next = self.filter_child(reach, before, levels, w);
+            kept += usize::from(next.written != reach.written);
+            reach = next;
+        }
+        Row { reach, kept }
+    }
+
+    // A child with so many bytes before it: a union's child has its id there, others nothing.
+    #[cycle(filtering)]
+    fn filter_child(&self, from: Reach, before: usize, levels: usize, w: &mut [u8]) -> Reach
+        ensures { FiltersChild self.now.s.now from.at before levels self.now.mask.now from.leaf w.old from.written w.new result }
+    {
+        let field = walk::ahead(self.s, from.at, before);
+        let start = self.copy_to(from, field, w);
+        let reach = self.filter_field(start, levels, w);
+        reach.unless_nothing(from, start)
+    }
 }
 
 // The columns, whose count stands at a place. Where none is kept, the map at the start of what is written loses its bit.
@@ -291,7 +236,8 @@ fn filter_columns(s: &[u8], at: usize, mask: &[u8], w: &mut [u8], pos: usize) ->
         leaf: 0,
         written: pos,
     };
-    let reach = filter_counted(s, first, 0, Cursor::LEVELS, mask, w);
+    let sieve = Sieve { s, mask };
+    let reach = sieve.filter_counted(first, 0, Cursor::LEVELS, w);
     if reach.written == pos {
         let map = walk::byte(s, 0) % 2;
         buffer::put_one(w, 0, map as u8);

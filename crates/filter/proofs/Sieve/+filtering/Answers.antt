@@ -6,10 +6,10 @@ use Rattle.filter.proofs.Fields.{field_nested, field_leaf, child_filtered}
 use Rattle.filter.proofs.Rows.{kept_more, turns_begin, turns_again, turns_done, counted_filtered}
 use Rattle.filter.proofs.Types.{struct_filtered, union_filtered, others_filtered, nested_filtered, inner_leaf, inner_nested, dictionary_filtered, runs_filtered, others_encoded, no_level, type_held, type_leaf, type_encoded}
 use borrow.Author.Rules.{rules}
-use Rattle.filter.proofs.+filtering.Goals as goal
+use Rattle.filter.proofs.Sieve.+filtering.Goals as goal
 
 pub filter_child-returns : goal.filter_child-returns
-filter_child-returns t c = child_filtered _ _ _ c.ahead-field.ensures c.put_part-start.ensures c.filter_field-reach.ensures c.unless_nothing.ensures
+filter_child-returns t c = child_filtered _ _ _ c.ahead-field.ensures c.copy_to-start.ensures c.filter_field-reach.ensures c.unless_nothing.ensures
 
 pub filter_children-returns-then-code-eq-STRUCT : goal.filter_children-returns-then-code-eq-STRUCT
 filter_children-returns-then-code-eq-STRUCT t c = struct_filtered _ _ _ c.if-code-eq-STRUCT.true c.filter_counted.ensures
@@ -21,7 +21,7 @@ pub filter_children-returns : goal.filter_children-returns
 filter_children-returns t c = others_filtered _ _ _ c.if-code-eq-STRUCT.false c.if-code-eq-UNION.false c.filter_field.ensures
 
 pub filter_counted-returns : goal.filter_counted-returns
-filter_counted-returns t c = counted_filtered _ _ _ c.ahead.ensures c.two-count.ensures.0 c.put_two-start.ensures c.filter_row-row.ensures c.put_two.ensures c.unless_nothing.ensures
+filter_counted-returns t c = counted_filtered _ _ _ c.ahead.ensures c.two-count.ensures.0 c.put_two.ensures c.filter_row-row.ensures c.put_two-2.ensures c.unless_nothing.ensures
 
 pub filter_encoded-returns-then-code-eq-DICTIONARY : goal.filter_encoded-returns-then-code-eq-DICTIONARY
 filter_encoded-returns-then-code-eq-DICTIONARY t c = dictionary_filtered _ _ _ c.if-code-eq-DICTIONARY.true c.ahead-first.ensures c.skip_type-value.ensures c.filter_inner.ensures
@@ -33,19 +33,19 @@ pub filter_encoded-returns : goal.filter_encoded-returns
 filter_encoded-returns t c = others_encoded _ _ _ c.if-code-eq-DICTIONARY.false c.if-code-eq-RUN_END_ENCODED.false
 
 pub filter_field-returns-in-None : goal.filter_field-returns-in-None
-filter_field-returns-in-None t c = field_leaf _ _ c.skip_head-body.ensures c.put_part-start.ensures c.filter_type.ensures c.in-None.is c.skip_type-end.ensures c.filter_leaf.ensures
+filter_field-returns-in-None t c = field_leaf _ _ c.skip_head-body.ensures c.copy_to-start.ensures c.filter_type.ensures c.in-None.is c.skip_type-end.ensures c.filter_leaf.ensures
 
 pub filter_field-returns-in-Some : goal.filter_field-returns-in-Some
-filter_field-returns-in-Some t c = field_nested _ _ c.skip_head-body.ensures c.put_part-start.ensures c.filter_type.ensures c.in-Some.is c.unless_nothing.ensures
+filter_field-returns-in-Some t c = field_nested _ _ c.skip_head-body.ensures c.copy_to-start.ensures c.filter_type.ensures c.in-Some.is c.unless_nothing.ensures
 
 pub filter_inner-returns-in_err-reach : goal.filter_inner-returns-in_err-reach
-filter_inner-returns-in_err-reach t c = inner_leaf _ _ c.put_part-start.ensures c.filter_type.ensures c.in_err-reach.was c.from_residual.ensures
+filter_inner-returns-in_err-reach t c = inner_leaf _ _ c.copy_to-start.ensures c.filter_type.ensures c.in_err-reach.was c.from_residual.ensures
 
 pub filter_inner-returns : goal.filter_inner-returns
-filter_inner-returns t c = inner_nested _ _ c.put_part-start.ensures c.filter_type.ensures c.in_ok-reach.was c.unless_nothing.ensures
+filter_inner-returns t c = inner_nested _ _ c.copy_to-start.ensures c.filter_type.ensures c.in_ok-reach.was c.unless_nothing.ensures
 
 pub filter_nested-returns : goal.filter_nested-returns
-filter_nested-returns t c = nested_filtered _ _ _ c.ahead-params.ensures c.skip_params-children.ensures c.put_part-start.ensures c.filter_children-reach.ensures c.unless_nothing.ensures
+filter_nested-returns t c = nested_filtered _ _ _ c.ahead-params.ensures c.skip_params-children.ensures c.copy_to-start.ensures c.filter_children-reach.ensures c.unless_nothing.ensures
 
 pub filter_row-loop-init : goal.filter_row-loop-init
 filter_row-loop-init t c = (refl, omega arith, λ l front e h. rw sub-zero (turns_begin _ _ _ _))
