@@ -56,18 +56,18 @@ struct Row {
 // What is filtered, a sheet, and by what: a mask, whose bytes are those of the leaves.
 #[derive(Clone, Copy)]
 struct Sieve<'a> {
-    s: &'a [u8],
+    sheet: &'a [u8],
     mask: &'a [u8],
 }
 
 impl Sieve<'_> {
     // Copies what stands up to a place, which has no leaf that is not counted yet.
     fn copy_to(&self, from: Reach, to: usize, w: &mut [u8]) -> Reach
-        ensures { CopiesTo self.now.s.now from to w.old w.new result }
+        ensures { CopiesTo self.now.sheet.now from to w.old w.new result }
     {
         Reach {
             at: to,
-            written: walk::put_part(w, from.written, self.s, from.at, to),
+            written: walk::put_part(w, from.written, self.sheet, from.at, to),
             ..from
         }
     }
@@ -75,7 +75,7 @@ impl Sieve<'_> {
     // "Mask byte i keeps leaf i unless 0." A field that is a leaf stands between the two places. Behind the mask's end nothing is kept. A sheet
     // has fewer leaves than bytes, so their number never stops at the largest.
     fn filter_leaf(&self, from: Reach, end: usize, w: &mut [u8]) -> Reach
-        ensures { FiltersLeaf self.now.s.now from.at end self.now.mask.now from.leaf w.old from.written w.new result }
+        ensures { FiltersLeaf self.now.sheet.now from.at end self.now.mask.now from.leaf w.old from.written w.new result }
     {
         let counted = Reach {
             leaf: from.leaf.saturating_add(1),
@@ -90,13 +90,13 @@ impl Sieve<'_> {
     // `filter_field`: the field with what is left of its type, or the leaf that it is.
     #[cycle(filtering)]
     fn filter_field(&self, from: Reach, levels: usize, w: &mut [u8]) -> Reach
-        ensures { FiltersField self.now.s.now from.at levels self.now.mask.now from.leaf w.old from.written w.new result }
+        ensures { FiltersField self.now.sheet.now from.at levels self.now.mask.now from.leaf w.old from.written w.new result }
     {
-        let body = walk::skip_head(self.s, from.at);
+        let body = walk::skip_head(self.sheet, from.at);
         let start = self.copy_to(from, body, w);
         match self.filter_type(start, levels, true, w) {
             None => {
-                let end = walk::skip_type(self.s, body, levels);
+                let end = walk::skip_type(self.sheet, body, levels);
                 self.filter_leaf(from, end, w)
             }
             Some(reach) => reach.unless_nothing(from, start),
@@ -108,12 +108,12 @@ impl Sieve<'_> {
     // says that none was yet.
     #[cycle(filtering)]
     fn filter_type(&self, from: Reach, levels: usize, through: bool, w: &mut [u8]) -> Option<Reach>
-        ensures { FiltersType self.now.s.now from.at levels through self.now.mask.now from.leaf w.old from.written w.new result }
+        ensures { FiltersType self.now.sheet.now from.at levels through self.now.mask.now from.leaf w.old from.written w.new result }
     {
         if levels <= 0 {
             return None;
         }
-        let code = walk::byte(self.s, from.at);
+        let code = walk::byte(self.sheet, from.at);
         if walk::holds_fields(code) {
             return Some(self.filter_nested(from, code, levels - 1, w));
         }
@@ -126,16 +126,16 @@ impl Sieve<'_> {
     // A Dictionary or RunEndEncoded is what the type of its second child is. All others have no leaf below them.
     #[cycle(filtering)]
     fn filter_encoded(&self, from: Reach, code: usize, levels: usize, w: &mut [u8]) -> Option<Reach>
-        ensures { FiltersEncoded self.now.s.now from.at code levels self.now.mask.now from.leaf w.old from.written w.new result }
+        ensures { FiltersEncoded self.now.sheet.now from.at code levels self.now.mask.now from.leaf w.old from.written w.new result }
     {
-        let first = walk::ahead(self.s, from.at, 1);
+        let first = walk::ahead(self.sheet, from.at, 1);
         if code == DICTIONARY {
-            let value = walk::skip_type(self.s, first, levels);
+            let value = walk::skip_type(self.sheet, first, levels);
             return self.filter_inner(from, value, levels, w);
         }
         if code == RUN_END_ENCODED {
-            let values = walk::skip_field(self.s, first, levels);
-            let body = walk::skip_head(self.s, values);
+            let values = walk::skip_field(self.sheet, first, levels);
+            let body = walk::skip_head(self.sheet, values);
             return self.filter_inner(from, body, levels, w);
         }
         None
@@ -144,7 +144,7 @@ impl Sieve<'_> {
     // The type that stands at the second place, and what stands before it from the first on, which is kept with it.
     #[cycle(filtering)]
     fn filter_inner(&self, from: Reach, inner: usize, levels: usize, w: &mut [u8]) -> Option<Reach>
-        ensures { FiltersInner self.now.s.now from.at inner levels self.now.mask.now from.leaf w.old from.written w.new result }
+        ensures { FiltersInner self.now.sheet.now from.at inner levels self.now.mask.now from.leaf w.old from.written w.new result }
     {
         let start = self.copy_to(from, inner, w);
         let reach = self.filter_type(start, levels, false, w)?;
@@ -154,10 +154,10 @@ impl Sieve<'_> {
     // A type that holds fields: its code and parameters, and what is left of its children.
     #[cycle(filtering)]
     fn filter_nested(&self, from: Reach, code: usize, levels: usize, w: &mut [u8]) -> Reach
-        ensures { FiltersNested self.now.s.now from.at code levels self.now.mask.now from.leaf w.old from.written w.new result }
+        ensures { FiltersNested self.now.sheet.now from.at code levels self.now.mask.now from.leaf w.old from.written w.new result }
     {
-        let params = walk::ahead(self.s, from.at, 1);
-        let children = walk::skip_params(self.s, params, code);
+        let params = walk::ahead(self.sheet, from.at, 1);
+        let children = walk::skip_params(self.sheet, params, code);
         let start = self.copy_to(from, children, w);
         let reach = self.filter_children(start, code, levels, w);
         reach.unless_nothing(from, start)
@@ -166,7 +166,7 @@ impl Sieve<'_> {
     // The children of such a type. One that is no Struct and no Union has one field.
     #[cycle(filtering)]
     fn filter_children(&self, from: Reach, code: usize, levels: usize, w: &mut [u8]) -> Reach
-        ensures { FiltersChildren self.now.s.now from.at code levels self.now.mask.now from.leaf w.old from.written w.new result }
+        ensures { FiltersChildren self.now.sheet.now from.at code levels self.now.mask.now from.leaf w.old from.written w.new result }
     {
         if code == STRUCT {
             return self.filter_counted(from, 0, levels, w);
@@ -180,11 +180,11 @@ impl Sieve<'_> {
     // A count, and as many children with so many bytes before each. How many are kept is known at the end, and written over the place held.
     #[cycle(filtering)]
     fn filter_counted(&self, from: Reach, before: usize, levels: usize, w: &mut [u8]) -> Reach
-        ensures { FiltersCounted self.now.s.now from.at before levels self.now.mask.now from.leaf w.old from.written w.new result }
+        ensures { FiltersCounted self.now.sheet.now from.at before levels self.now.mask.now from.leaf w.old from.written w.new result }
     {
-        let count = walk::two(self.s, from.at);
+        let count = walk::two(self.sheet, from.at);
         let start = Reach {
-            at: walk::ahead(self.s, from.at, 2),
+            at: walk::ahead(self.sheet, from.at, 2),
             written: buffer::put_two(w, from.written, 0),
             ..from
         };
@@ -203,7 +203,7 @@ impl Sieve<'_> {
         levels: usize,
         w: &mut [u8],
     ) -> Row
-        ensures { FiltersRow self.now.s.now from.at count before levels self.now.mask.now from.leaf w.old from.written w.new result }
+        ensures { FiltersRow self.now.sheet.now from.at count before levels self.now.mask.now from.leaf w.old from.written w.new result }
     {
         let mut reach = from;
         let mut kept = 0;
@@ -218,49 +218,48 @@ impl Sieve<'_> {
     // A child with so many bytes before it: a union's child has its id there, others nothing.
     #[cycle(filtering)]
     fn filter_child(&self, from: Reach, before: usize, levels: usize, w: &mut [u8]) -> Reach
-        ensures { FiltersChild self.now.s.now from.at before levels self.now.mask.now from.leaf w.old from.written w.new result }
+        ensures { FiltersChild self.now.sheet.now from.at before levels self.now.mask.now from.leaf w.old from.written w.new result }
     {
-        let field = walk::ahead(self.s, from.at, before);
+        let field = walk::ahead(self.sheet, from.at, before);
         let start = self.copy_to(from, field, w);
         let reach = self.filter_field(start, levels, w);
         reach.unless_nothing(from, start)
     }
-}
 
-// The columns, whose count stands at a place. Where none is kept, the map at the start of what is written loses its bit.
-fn filter_columns(s: &[u8], at: usize, mask: &[u8], w: &mut [u8], pos: usize) -> Reach
-    ensures { FiltersColumns s.now at mask.now w.old pos w.new result }
-{
-    let first = Reach {
-        at,
-        leaf: 0,
-        written: pos,
-    };
-    let sieve = Sieve { s, mask };
-    let reach = sieve.filter_counted(first, 0, Cursor::LEVELS, w);
-    if reach.written == pos {
-        let map = walk::byte(s, 0) % 2;
-        buffer::put_one(w, 0, map as u8);
-        return reach;
+    // The columns, whose count stands at a place. Where none is kept, the map at the start of what is written loses its bit.
+    fn filter_columns(&self, at: usize, w: &mut [u8], pos: usize) -> Reach
+        ensures { FiltersColumns self.now.sheet.now at self.now.mask.now w.old pos w.new result }
+    {
+        let first = Reach {
+            at,
+            leaf: 0,
+            written: pos,
+        };
+        let reach = self.filter_counted(first, 0, Cursor::LEVELS, w);
+        if reach.written == pos {
+            let map = walk::byte(self.sheet, 0) % 2;
+            buffer::put_one(w, 0, map as u8);
+            return reach;
+        }
+        reach
     }
-    reach
-}
 
-// The sheet: the map, the schema's metadata as it is, and what is left of the columns.
-fn filter_sheet(s: &[u8], mask: &[u8], w: &mut [u8]) -> Reach
-    ensures { FiltersSheet s.now mask.now w.old w.new result }
-{
-    let map = walk::byte(s, 0);
-    let metadata = walk::ahead(s, 0, 1);
-    let place = walk::skip_metadata_if(s, metadata, map % 2 == 1);
-    let start = walk::put_part(w, 0, s, 0, place);
-    if map / 2 % 2 == 1 {
-        return filter_columns(s, place, mask, w, start);
-    }
-    Reach {
-        at: place,
-        leaf: 0,
-        written: start,
+    // The sheet: the map, the schema's metadata as it is, and what is left of the columns.
+    fn filter_sheet(&self, w: &mut [u8]) -> Reach
+        ensures { FiltersSheet self.now.sheet.now self.now.mask.now w.old w.new result }
+    {
+        let map = walk::byte(self.sheet, 0);
+        let metadata = walk::ahead(self.sheet, 0, 1);
+        let place = walk::skip_metadata_if(self.sheet, metadata, map % 2 == 1);
+        let start = walk::put_part(w, 0, self.sheet, 0, place);
+        if map / 2 % 2 == 1 {
+            return self.filter_columns(place, w, start);
+        }
+        Reach {
+            at: place,
+            leaf: 0,
+            written: start,
+        }
     }
 }
 
@@ -275,7 +274,8 @@ pub fn filter(sheet: &[u8], mask: &[u8], work: &mut [u8], answer: &mut [u8]) -> 
     match read {
         Step::Refused(number, place) => buffer::refuse(work, number, place),
         Step::Next(_) => {
-            let reach = filter_sheet(sheet, mask, work);
+            let sieve = Sieve { sheet, mask };
+            let reach = sieve.filter_sheet(work);
             if reach.leaf != mask.len() {
                 return buffer::refuse(work, MASK_LENGTH, 0);
             }

@@ -1,6 +1,6 @@
 -- `filter_sheet`: the map says whether there are columns.
 use Rattle.filter.proofs.Sheets.{sheet_columns, sheet_bare}
-use Rattle.filter.proofs.filter_sheet.Goals as goal
+use Rattle.filter.proofs.Sieve.filter_sheet.Goals as goal
 
 pub returns-then-map-eq1 : goal.returns-then-map-eq1
 returns-then-map-eq1 c =

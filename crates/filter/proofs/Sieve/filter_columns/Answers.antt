@@ -1,6 +1,6 @@
 -- `filter_columns`: by whether the position is where it was.
 use Rattle.filter.proofs.Sheets.{columns_gone, columns_left}
-use Rattle.filter.proofs.filter_columns.Goals as goal
+use Rattle.filter.proofs.Sieve.filter_columns.Goals as goal
 
 pub returns-then-reach-pos : goal.returns-then-reach-pos
 returns-then-reach-pos c =
