@@ -1,7 +1,7 @@
 -- The sheet of the normalised schema, and `normalize` as a call.
 use Prim.Native.Nat.{ℕ, ◌+◌, ◌%◌, ◌/◌, ◌≤◌, ◌<◌}
 use native.Mathlib.Omega.{arith}
-use mathlib.Core.Path.{◌≡◌, refl, sym, ap, ◌∙◌}
+use mathlib.Core.Path.{◌≡◌, refl, sym, ap, subst, ◌∙◌}
 use mathlib.Core.List.{List, [], ◌∷◌, ◌++◌}
 use mathlib.Core.Bool.{Bool, true, false}
 use lib.ListN.{length}
@@ -33,14 +33,15 @@ use Rattle.normalize.specs.declared.Reach.{Reach}
 use Rattle.normalize.specs.Expands.{prefix, Measures, Adds, ExpandsFields, normalized, PutsColumns, PutsNormalized, sheet_length}
 
 -- all columns of a sheet that was read: no field is above them
-pub columns_put : {s : Bytes} (separator : Bytes) (maxLevel : ℕ) (path : List ℕ) {n first : ℕ} {w : Bytes} {p : ℕ} {w' : Bytes} {to : Reach} → length path ≡ max_levels
+pub columns_put : {s : Bytes} (separator : Bytes) (maxLevel : ℕ) {path : List ℕ} {n first : ℕ} {w : Bytes} {p : ℕ} {w' : Bytes} {to : Reach} → path ≡ []
     → ((x : Schema) → Stands s 0 (sheet_bytes x) → ColumnsAt s 0 x n first)
-    → ExpandsFields s separator maxLevel path 0 n w (record { place = first; written = p; count = 0 }) w' to → PutsColumns s separator maxLevel w p w' to
+    → ExpandsFields s separator maxLevel path n w (record { place = first; written = p; count = 0 }) w' to → PutsColumns s separator maxLevel w p w' to
 unfolding normalized_columns prefix join
-columns_put {s} separator maxLevel path size f g x fits e =
+columns_put {s} separator maxLevel {path} {n} {first} {w} {p} {w'} {to} none f g x fits e =
     let a = f x (whole_stands s (sheet_bytes x) e) in
-    (g max_levels (λ t. t) [] x.columns (omega arith) (λ t. refl)
-    (record { size = size; count = refl; few = omega arith; stand = λ i h. absurd (omega (arith, h)) })
+    let fields = subst (λ q. ExpandsFields s separator maxLevel q n w (record { place = first; written = p; count = 0 }) w' to) none g in
+    (fields max_levels (λ t. t) [] x.columns (omega arith) (λ t. refl)
+    (record { count = refl; stand = λ i h. absurd (omega (arith, h)) })
     (sym a.count) (columns_laid_out x fits.well_formed)).adds a.stands
 
 -- A sheet of such columns and no metadata: its map, and behind it their count and the columns, if there are any

@@ -2,7 +2,7 @@
 use native.Mathlib.Omega.{arith}
 use Rattle.walk.proofs.Descents.{nullable_stands}
 use Rattle.normalize.proofs.Names.{head_unnamed, head_named}
-use Rattle.normalize.proofs.put_head.Goals as goal
+use Rattle.normalize.proofs.Expansion.put_head.Goals as goal
 
 pub returns-then-length-eq0 : goal.returns-then-length-eq0
 returns-then-length-eq0 c hs h a st =
