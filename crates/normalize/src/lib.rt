@@ -60,12 +60,6 @@ impl Path {
         }
     }
 
-    fn depth(&self) -> usize
-        ensures { (result ≡ length self.now) × (result ≤ max_levels) }
-    {
-        self.depth
-    }
-
     fn places(&self) -> &[usize]
         ensures { result.now ≡ self.now }
     {
@@ -86,6 +80,16 @@ impl Path {
             depth: self.depth + 1,
         })
     }
+}
+
+// The length of a sheet whose columns, behind its map and their count, reach so far: without a column it is its map alone.
+fn sheet_length(end: usize) -> usize
+    ensures { result ≡ sheet_length end }
+{
+    if end <= 3 {
+        return 1;
+    }
+    end
 }
 
 // What is expanded, a sheet, and how: the separator between the parts of a name, and the level where it ends.
@@ -178,7 +182,7 @@ impl Expansion<'_> {
         ensures { ExpandsField self.now.sheet.now self.now.separator.now self.now.max_level path.now w.old from w.new result }
     {
         let data_type = walk::skip_head(self.sheet, from.place);
-        if !self.expands(walk::byte(self.sheet, data_type), path.depth()) {
+        if !self.expands(walk::byte(self.sheet, data_type), path.places().len()) {
             return self.put_column(w, from, path);
         }
         let Some(longer) = path.below(from.place) else {
@@ -233,46 +237,25 @@ impl Expansion<'_> {
         let reach = self.put_columns(w, first);
         reach.written
     }
-}
 
-// The length of a sheet whose columns, behind its map and their count, reach so far: without a column it is its map alone.
-fn sheet_length(end: usize) -> usize
-    ensures { result ≡ sheet_length end }
-{
-    if end <= 3 {
-        return 1;
+    // The parameters and the answer of a call whose sheet was read: 18, 30, 31, or acceptance.
+    fn answer(&self, work: &mut [u8], answer: &mut [u8]) -> Outcome
+        ensures { (x : Schema) → Fits x → self.now.sheet.now ≡ sheet_bytes x → leaves result answer.new work.new ≡ settled (sheet_answer (schemas.normalize x self.now.separator.now self.now.max_level)) (zeros (length work.old)) answer.old }
+    {
+        let checked = text::check(self.separator);
+        let Text::Valid = checked else {
+            return buffer::refuse(work, SEPARATOR_NOT_UTF8, 0);
+        };
+        let columns = self.put_columns(&mut [], 3);
+        let length = sheet_length(columns.written);
+        let number = buffer::length_number(length, answer.len());
+        if number != Outcome::ACCEPTED {
+            return buffer::refuse(work, number, 0);
+        }
+        self.put_normalized(answer, columns.count);
+        buffer::clear(work);
+        Outcome::accepted(length)
     }
-    end
-}
-
-// The parameters and the answer of a call on a sheet that was read: 18, 30, 31, or acceptance.
-fn answer_normalized(
-    sheet: &[u8],
-    separator: &[u8],
-    max_level: u16,
-    work: &mut [u8],
-    answer: &mut [u8],
-) -> Outcome
-    ensures { (x : Schema) → Fits x → sheet.now ≡ sheet_bytes x → leaves result answer.new work.new ≡ settled (sheet_answer (schemas.normalize x separator.now max_level)) (zeros (length work.old)) answer.old }
-{
-    let checked = text::check(separator);
-    let Text::Valid = checked else {
-        return buffer::refuse(work, SEPARATOR_NOT_UTF8, 0);
-    };
-    let expansion = Expansion {
-        sheet,
-        separator,
-        max_level,
-    };
-    let columns = expansion.put_columns(&mut [], 3);
-    let length = sheet_length(columns.written);
-    let number = buffer::length_number(length, answer.len());
-    if number != Outcome::ACCEPTED {
-        return buffer::refuse(work, number, 0);
-    }
-    expansion.put_normalized(answer, columns.count);
-    buffer::clear(work);
-    Outcome::accepted(length)
 }
 
 // `Schema::normalize`.
@@ -290,6 +273,13 @@ pub fn normalize(
     }
     match sheet::read_sheet(sheet) {
         Step::Refused(number, place) => buffer::refuse(work, number, place),
-        Step::Next(_) => answer_normalized(sheet, separator, max_level, work, answer),
+        Step::Next(_) => {
+            let expansion = Expansion {
+                sheet,
+                separator,
+                max_level,
+            };
+            expansion.answer(work, answer)
+        }
     }
 }

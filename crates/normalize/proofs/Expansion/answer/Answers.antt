@@ -1,6 +1,6 @@
--- `answer_normalized`: 18, 30 or 31, or the sheet.
+-- `answer`: 18, 30 or 31, or the sheet.
 use Rattle.normalize.proofs.Sheets.{separator_refused, length_refused, length_accepted}
-use Rattle.normalize.proofs.answer_normalized.Goals as goal
+use Rattle.normalize.proofs.Expansion.answer.Goals as goal
 
 pub returns-in_default : goal.returns-in_default
 returns-in_default c =
