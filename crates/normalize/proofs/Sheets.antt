@@ -6,7 +6,7 @@ use mathlib.Core.List.{List, [], ◌∷◌, ◌++◌}
 use mathlib.Core.Bool.{Bool, true, false}
 use lib.ListN.{length}
 use lib.Dec.{leb, ltb}
-use borrow.Author.Tests.{leb-true, leb-false, ltb-false, lt-leb}
+use borrow.Author.Tests.{leb-true, leb-false, ltb-false, le-leb, lt-leb}
 use Rattle.model.specs.Numbers.{max_levels, max_sheet_bytes, accepted, separator_not_utf8}
 use Rattle.model.specs.Bytes.{Bytes, choose, u16}
 use Rattle.model.specs.Text.{utf8}
@@ -16,7 +16,7 @@ use Rattle.model.specs.WellFormed.{Fits}
 use Rattle.model.specs.Read.{judged, unless}
 use Rattle.model.specs.Schema.{join, normalized_columns, normalize}
 use Rattle.model.specs.Call.{bytes, refused, and_then, sheet_answer, acceptance, settled}
-use Rattle.model.proofs.Gives.{choose_false}
+use Rattle.model.proofs.Gives.{choose_true, choose_false}
 use Rattle.model.proofs.WellFormed.{columns_laid_out}
 use Rattle.text.specs.declared.Text.{Text}
 use Rattle.text.specs.declared.Text.TheVariants.{Valid, Broken}
@@ -66,7 +66,11 @@ module _ {w : Bytes} {n : ℕ} where
 
 -- Its length and the number of its columns, from the columns as they are put from 3 on
 
-long_sheet : (q : ℕ) → 3 < q → sheet_length q ≡ q
+pub short_sheet : (q : ℕ) → q ≤ 3 → sheet_length q ≡ 1
+unfolding sheet_length
+short_sheet q h = choose_true _ _ _ (le-leb q 3 h)
+
+pub long_sheet : (q : ℕ) → 3 < q → sheet_length q ≡ q
 unfolding sheet_length
 long_sheet q h = choose_false _ _ _ (lt-leb q 3 h)
 

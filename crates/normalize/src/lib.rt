@@ -83,6 +83,7 @@ impl Path {
 }
 
 // The length of a sheet whose columns, behind its map and their count, reach so far: without a column it is its map alone.
+#[tactic(auto, using(crate::proofs::Sheets::short_sheet, crate::proofs::Sheets::long_sheet))]
 fn sheet_length(end: usize) -> usize
     ensures { result ≡ sheet_length end }
 {
