@@ -1,5 +1,5 @@
 -- What is copied from the train by a row of places.
-use Prim.Native.Nat.{ℕ, ◌+◌, ◌-◌, ◌/◌, ◌%◌, ◌≤◌, ◌<◌, ◌*◌}
+use Prim.Native.Nat.{ℕ, ◌+◌, ◌/◌, ◌%◌, ◌≤◌, ◌<◌, ◌*◌}
 use native.Mathlib.Omega.{arith}
 use mathlib.Core.Path.{◌≡◌, refl, sym, ap, subst, ◌∙◌}
 use mathlib.Core.List.{List, [], ◌∷◌, ◌++◌, append_assoc, append-nil}
@@ -43,18 +43,9 @@ module _ {w : Bytes} {place : ℕ} where
   has_places {n} e [] g st = ap not (eq-eqb n no_place (e ∙ end_is st))
   has_places {n} e (p ∷ ps) g st = ap not (ne_eqb n no_place λ h. omega (arith, h, e, g.0, front_is p ps g.0 st))
 
-  module _ {end : ℕ} (f : SkipsPlaces w place end) where
-    ends : (ps : List ℕ) → Every (λ p. p < no_place) ps → Stands w place (places_bytes ps) → end ≡ place + (3 * length ps + 3)
-    ends ps g st = (f ps g).behind st ∙ ap (λ n. place + n) (length_places ps)
-
-    pub count_none : {r : ℕ} → end ≤ place → CountsPlaces w place r
-    count_none h ps g st = absurd (omega (arith, h, ends ps g st))
-
-    pub count_no_end : {r : ℕ} → (end - place) / 3 ≡ 0 → CountsPlaces w place r
-    count_no_end h ps g st = absurd (omega (arith, h, ends ps g st))
-
-    pub count_is : CountsPlaces w place ((end - place) / 3 - 1)
-    count_is ps g st = omega (arith, ends ps g st)
+  -- three bytes for each, and as many for the end
+  pub ends : {end : ℕ} → SkipsPlaces w place end → (ps : List ℕ) → Every (λ p. p < no_place) ps → Stands w place (places_bytes ps) → end ≡ place + (3 * length ps + 3)
+  ends f ps g st = (f ps g).behind st ∙ ap (λ n. place + n) (length_places ps)
 
 -- A row of places by its elements: the place of one, at which it stands; W holds of it
 pub record CopyOf {A : Type 0} (s : Bytes) (write : A → Bytes) (W : A → Type 0) (k : ℕ) (y : Bytes) (x : A) : Type 0 where

@@ -1,12 +1,13 @@
 -- What is put: a part of the train, and lists element by element, those that are left, the count before them, and the part under a bit.
-use Prim.Native.Nat.{ℕ, ◌+◌, ◌%◌, ◌/◌, ◌≤◌, ◌<◌}
+use Prim.Native.Nat.{ℕ, ◌+◌, ◌*◌, ◌%◌, ◌/◌, ◌≤◌, ◌<◌}
 use native.Mathlib.Omega.{arith}
 use mathlib.Core.Path.{◌≡◌, refl, sym, ap, ◌∙◌}
 use mathlib.Core.List.{List, [], ◌∷◌, ◌++◌}
-use mathlib.Core.Bool.{true, false, false≢true}
+use mathlib.Core.Bool.{Bool, true, false, false≢true}
+use Rattle.std.specs.Int.{from_bool}
 use lib.ListN.{length, length-append}
 use Rattle.model.specs.Numbers.{max_sheet_bytes}
-use Rattle.model.specs.Bytes.{Bytes, u16}
+use Rattle.model.specs.Bytes.{Bytes, u16, flag}
 use Rattle.model.specs.Sheet.{each, with_count, part, stands}
 use Rattle.buffer.specs.Puts.{Puts}
 use Rattle.buffer.proofs.Puts.{puts_none, puts_beyond, puts_as, puts_join, two_bytes_lem}
@@ -15,6 +16,11 @@ use Rattle.walk.specs.Stands.{Stands}
 -- what `put_part` ensures
 abbrev pub PutsPart : (s : Bytes) (from to : ℕ) (d : Bytes) (p : ℕ) (d' : Bytes) (r : ℕ) → Type 0
 PutsPart s from to d p d' r = (b : Bytes) → Stands s from b → to ≡ from + length b → Puts b d p d' r
+
+-- a bit of this value is added to a map where it is set
+pub flag_of : (n : ℕ) (set : Bool) {m : ℕ} → m ≡ from_bool set → m * n ≡ flag n set
+flag_of n true e = rw e (omega arith)
+flag_of n false e = rw e (omega arith)
 
 module _ {A : Type 0} (write : A → Bytes) where
   -- with those that are left put from q on, all are put from p on

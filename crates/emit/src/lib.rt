@@ -4,7 +4,7 @@
 #![tactic(auto)]
 
 ghost use Rattle.std.specs.Prelude.{◌≡◌, [], ◌∷◌, ℕ, ◌≤◌, get_or};
-ghost use Rattle.model.specs.Bytes.{Bytes, flag};
+ghost use Rattle.model.specs.Bytes.{Bytes};
 ghost use Rattle.model.specs.Tree.{Field, Schema};
 ghost use Rattle.model.specs.Sheet.{pair_bytes, sheet_bytes};
 ghost use Rattle.model.specs.WellFormed.{Whole};
@@ -26,22 +26,11 @@ const OPEN_STRUCT: usize = 1;
 
 const OPEN_LIST: usize = 2;
 
-// What a bit of this value adds to a map.
-fn flag(value: usize, set: bool) -> usize
-    ensures { (result ≡ flag value set) × (result ≤ value) }
-{
-    if set {
-        return value;
-    }
-    0
-}
-
 // Copies the byte at a place of the train.
 fn put_copy(s: &[u8], at: usize, dst: &mut [u8], pos: usize) -> usize
     ensures { Puts (get_or s.now at 0 ∷ []) dst.old pos dst.new result }
 {
-    let byte = walk::byte(s, at);
-    buffer::put_one(dst, pos, byte as u8)
+    buffer::put_one(dst, pos, s.get(at).copied().unwrap_or(0))
 }
 
 // Whether a row of places has any.
@@ -55,15 +44,8 @@ fn has_places(w: &[u8], at: usize) -> bool
 fn count_places(w: &[u8], at: usize) -> usize
     ensures { CountsPlaces w.now at result }
 {
-    let end = table::skip_places(w, at);
-    if end <= at {
-        return 0;
-    }
-    let count = (end - at) / 3;
-    if count == 0 {
-        return 0;
-    }
-    count - 1
+    let length = table::skip_places(w, at).saturating_sub(at);
+    (length / 3).saturating_sub(1)
 }
 
 // A pair, as it stands in the train.
@@ -149,7 +131,7 @@ fn put_name(
     let map = walk::byte(s, first);
     let name = walk::ahead(s, first, 1);
     let end = walk::skip_text_if(s, name, map / 4 % 2 == 1);
-    let own = flags % 4 + map / 4 % 2 * 4 + flag(8, metadata) + map / 16 % 2 * 16;
+    let own = flags % 4 + map / 4 % 2 * 4 + usize::from(metadata) * 8 + map / 16 % 2 * 16;
     let next = buffer::put_one(dst, pos, own as u8);
     walk::put_part(dst, next, s, name, end)
 }
@@ -174,7 +156,7 @@ fn front_type<'a>(s: &'a [u8], levels: usize) -> &'a [u8]
     ensures { IsFrontType s.now levels result.now }
 {
     let end = walk::ahead(s, 0, walk::skip_type(s, 0, levels));
-    &s[0..end]
+    &s[..end]
 }
 
 // "The surviving type is handed back as a part of whichever of the two sheets supplied it, where no nested merging is needed": of the
@@ -192,13 +174,10 @@ fn surviving<'a>(accumulated: &'a [u8], incoming: &'a [u8], levels: usize) -> &'
 fn put_raw(s: &[u8], own: usize, x: usize, levels: usize, dst: &mut [u8], pos: usize) -> usize
     ensures { PutsSurvivor s.now own x levels dst.old pos dst.new result }
 {
-    if s.len() < own {
+    let (Some(accumulated), Some(incoming)) = (s.get(own..), s.get(x..)) else {
         return pos;
-    }
-    if s.len() < x {
-        return pos;
-    }
-    buffer::put(dst, pos, surviving(&s[own..], &s[x..], levels))
+    };
+    buffer::put(dst, pos, surviving(accumulated, incoming, levels))
 }
 
 // A union child, as it stands in the train: its id and its field.
@@ -372,7 +351,7 @@ pub fn emit(s: &[u8], w: &[u8], dst: &mut [u8]) -> usize
     ensures { (x : Schema) (k : ℕ) (y : Bytes) → SpellSchema s.now k y x → Stands w.now 0 y → Puts (sheet_bytes x) dst.old 0 dst.new result }
 {
     let columns = table::skip_places(w, 0);
-    let map = flag(1, has_places(w, 0)) + flag(2, has_entries(w, columns));
+    let map = usize::from(has_places(w, 0)) + usize::from(has_entries(w, columns)) * 2;
     let metadata = buffer::put_one(dst, 0, map as u8);
     let next = put_metadata(s, w, 0, dst, metadata);
     put_columns(s, w, columns, dst, next)
