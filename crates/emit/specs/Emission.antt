@@ -7,7 +7,7 @@ use Rattle.model.specs.Tree.{Head, DataType, Field}
 use Rattle.model.specs.Sheet.{dict_id_bytes, dict_id_stands, each, with_count, part, stands, text_bytes, pair_bytes, head_bytes, field_bytes, type_bytes, column_bytes}
 use Rattle.model.specs.WellFormed.{LaidOut, Whole}
 use Rattle.buffer.specs.Puts.{Puts}
-use Rattle.walk.specs.Stands.{Stands, member_bytes}
+use Rattle.walk.specs.Stands.{Stands, Skips, member_bytes}
 use Rattle.table.specs.Table.{no_place, places_bytes, Places, SpellType, SpellField, SpellRow}
 use Rattle.emit.specs.Survivor.{survivor}
 
@@ -20,6 +20,15 @@ HasPlaces w place r = (ps : List ℕ) → Every (λ p. p < no_place) ps → Stan
 
 abbrev pub CountsPlaces : (w : Bytes) (place r : ℕ) → Type 0
 CountsPlaces w place r = (ps : List ℕ) → Every (λ p. p < no_place) ps → Stands w place (places_bytes ps) → r ≡ length ps
+
+-- the part of the train that stands at a place ends where `ends` says of it; it is not empty
+abbrev pub EndsAt : (ends : ℕ → ℕ → Type 0) (s : Bytes) → Bytes → Type 0
+EndsAt ends s b = (0 < length b) × ((place end : ℕ) → place < no_place → ends place end → Skips s place b end)
+
+-- the count of a row, and the parts of the train at its places
+abbrev pub PutsPlaces : (ends : ℕ → ℕ → Type 0) (s w : Bytes) (place : ℕ) (d : Bytes) (p : ℕ) (d' : Bytes) (r : ℕ) → Type 0
+PutsPlaces ends s w place d p d' r =
+    (k : ℕ) (y : Bytes) (bs : List Bytes) → Places s (λ b. b) k y bs → Every (EndsAt ends s) bs → Stands w place y → Puts (with_count (λ b. b) bs) d p d' r
 
 -- the pairs, without their count; and metadata, which is nothing where there are none
 

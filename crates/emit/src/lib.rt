@@ -9,12 +9,13 @@ ghost use Rattle.model.specs.Tree.{Field, Schema};
 ghost use Rattle.model.specs.Sheet.{pair_bytes, sheet_bytes};
 ghost use Rattle.model.specs.WellFormed.{Whole};
 ghost use Rattle.buffer.specs.Puts.{Puts};
-ghost use Rattle.walk.specs.Stands.{Stands, member_bytes};
+ghost use Rattle.walk.specs.Stands.{Stands, Skips, member_bytes};
 ghost use Rattle.table.specs.Table.{SpellSchema};
 ghost use Rattle.emit.specs.Survivor.{IsFrontType, IsSurvivor};
-ghost use Rattle.emit.specs.Emission.{HasPlaces, CountsPlaces, PutsPairs, PutsMetadata, PutsMembers, PutsUnion, PutsRawHead, PutsDictId, PutsName, PutsHead, PutsSurvivor, PutsType, PutsEntry, HasEntries, CountsEntries, PutsEntries, PutsRow, PutsColumns};
+ghost use Rattle.emit.specs.Emission.{HasPlaces, PutsPlaces, PutsMetadata, PutsUnion, PutsRawHead, PutsDictId, PutsName, PutsHead, PutsSurvivor, PutsType, PutsEntry, HasEntries, CountsEntries, PutsEntries, PutsRow, PutsColumns};
 
 use sheet::Cursor;
+use table::PlaceRow;
 
 // The code of the type that gives way.
 const NULL: usize = 0;
@@ -37,42 +38,43 @@ fn put_copy(s: &[u8], at: usize, dst: &mut [u8], pos: usize) -> usize
 fn has_places(w: &[u8], at: usize) -> bool
     ensures { HasPlaces w.now at result }
 {
-    table::three(w, at) != table::NO_PLACE
+    PlaceRow::new(w, at).next().is_some()
 }
 
-// How many places a row has: three bytes each, and as many for the end.
-fn count_places(w: &[u8], at: usize) -> usize
-    ensures { CountsPlaces w.now at result }
+// A pair of the train.
+fn skip_pair(s: &[u8], at: usize) -> usize
+    ensures { (p : Bytes × Bytes) → Skips s.now at (pair_bytes p) result }
 {
-    let length = table::skip_places(w, at).saturating_sub(at);
-    (length / 3).saturating_sub(1)
+    walk::skip_text(s, walk::skip_text(s, at))
 }
 
-// A pair, as it stands in the train.
-fn put_pair(s: &[u8], at: usize, dst: &mut [u8], pos: usize) -> usize
-    ensures { (p : Bytes × Bytes) → Stands s.now at (pair_bytes p) → Puts (pair_bytes p) dst.old pos dst.new result }
+// A union child of the train: its id and its field.
+fn skip_member(s: &[u8], at: usize, levels: usize) -> usize
+    ensures { (l : ℕ) (f : Field l) → l ≤ levels → Whole l f.data_type → Skips s.now at (member_bytes l f) result }
 {
-    let value = walk::skip_text(s, at);
-    let end = walk::skip_text(s, value);
-    walk::put_part(dst, pos, s, at, end)
+    walk::skip_field(s, walk::ahead(s, at, 1), levels)
 }
 
-// The pairs of a row of places. What passes the longest answer is not gone over.
-fn put_pairs(s: &[u8], w: &[u8], at: usize, dst: &mut [u8], pos: usize) -> usize
-    ensures { PutsPairs s.now w.now at dst.old pos dst.new result }
+// The count of a row of places, and what stands at each of them in the train, up to where `skip` goes. What passes the longest answer is
+// not gone over.
+fn put_places<F: Fn(usize) -> usize>(
+    s: &[u8],
+    w: &[u8],
+    at: usize,
+    dst: &mut [u8],
+    pos: usize,
+    skip: F,
+) -> usize
+    requires { F.IsAlwaysCallable skip }
+    ensures { PutsPlaces (F.post skip) s.now w.now at dst.old pos dst.new result }
 {
-    let mut place = at;
-    let mut next = pos;
-    while place < w.len() {
-        let pair = table::three(w, place);
-        if pair == table::NO_PLACE {
-            return next;
-        }
+    let row = PlaceRow::new(w, at);
+    let mut next = buffer::put_two(dst, pos, row.count());
+    for place in row {
         if buffer::MAX_ANSWER_BYTES < next {
             return next;
         }
-        next = put_pair(s, pair, dst, next);
-        place += 3;
+        next = walk::put_part(dst, next, s, place, skip(place));
     }
     next
 }
@@ -82,8 +84,7 @@ fn put_metadata(s: &[u8], w: &[u8], at: usize, dst: &mut [u8], pos: usize) -> us
     ensures { PutsMetadata s.now w.now at dst.old pos dst.new result }
 {
     if has_places(w, at) {
-        let next = buffer::put_two(dst, pos, count_places(w, at));
-        return put_pairs(s, w, at, dst, next);
+        return put_places(s, w, at, dst, pos, |pair| skip_pair(s, pair));
     }
     pos
 }
@@ -180,35 +181,6 @@ fn put_raw(s: &[u8], own: usize, x: usize, levels: usize, dst: &mut [u8], pos: u
     buffer::put(dst, pos, surviving(accumulated, incoming, levels))
 }
 
-// A union child, as it stands in the train: its id and its field.
-fn put_member(s: &[u8], at: usize, levels: usize, dst: &mut [u8], pos: usize) -> usize
-    ensures { (l : ℕ) (f : Field l) → l ≤ levels → Whole l f.data_type → Stands s.now at (member_bytes l f) → Puts (member_bytes l f) dst.old pos dst.new result }
-{
-    let field = walk::ahead(s, at, 1);
-    let end = walk::skip_field(s, field, levels);
-    walk::put_part(dst, pos, s, at, end)
-}
-
-// The union children of a row of places.
-fn put_members(s: &[u8], w: &[u8], at: usize, levels: usize, dst: &mut [u8], pos: usize) -> usize
-    ensures { PutsMembers s.now w.now at levels dst.old pos dst.new result }
-{
-    let mut place = at;
-    let mut next = pos;
-    while place < w.len() {
-        let member = table::three(w, place);
-        if member == table::NO_PLACE {
-            return next;
-        }
-        if buffer::MAX_ANSWER_BYTES < next {
-            return next;
-        }
-        next = put_member(s, member, levels, dst, next);
-        place += 3;
-    }
-    next
-}
-
 // What follows the code of a union: the mode, copied from a place of the train, the count and the children.
 fn put_union(
     s: &[u8],
@@ -222,8 +194,9 @@ fn put_union(
     ensures { PutsUnion s.now w.now mode at levels dst.old pos dst.new result }
 {
     let count = put_copy(s, mode, dst, pos);
-    let first = buffer::put_two(dst, count, count_places(w, at));
-    put_members(s, w, at, levels, dst, first)
+    put_places(s, w, at, dst, count, |member| {
+        skip_member(s, member, levels)
+    })
 }
 
 // Whether a row of entries has any.
