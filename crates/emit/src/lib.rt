@@ -15,17 +15,10 @@ ghost use Rattle.emit.specs.Survivor.{IsFrontType, IsSurvivor};
 ghost use Rattle.emit.specs.Emission.{HasPlaces, PutsPlaces, PutsMetadata, PutsUnion, PutsRawHead, PutsDictId, PutsName, PutsHead, PutsSurvivor, PutsType, PutsEntry, HasEntries, CountsEntries, PutsEntries, PutsRow, PutsColumns};
 
 use sheet::Cursor;
-use table::PlaceRow;
+use table::{Kind, PlaceRow};
 
 // The code of the type that gives way.
 const NULL: usize = 0;
-
-// The kinds of a type's entry; the last one is a union's.
-const RAW: usize = 0;
-
-const OPEN_STRUCT: usize = 1;
-
-const OPEN_LIST: usize = 2;
 
 // Copies the byte at a place of the train.
 fn put_copy(s: &[u8], at: usize, dst: &mut [u8], pos: usize) -> usize
@@ -53,40 +46,6 @@ fn skip_member(s: &[u8], at: usize, levels: usize) -> usize
     ensures { (l : ℕ) (f : Field l) → l ≤ levels → Whole l f.data_type → Skips s.now at (member_bytes l f) result }
 {
     walk::skip_field(s, walk::ahead(s, at, 1), levels)
-}
-
-// The count of a row of places, and what stands at each of them in the train, up to where `skip` goes. What passes the longest answer is
-// not gone over.
-fn put_places<F: Fn(usize) -> usize>(
-    s: &[u8],
-    w: &[u8],
-    at: usize,
-    dst: &mut [u8],
-    pos: usize,
-    skip: F,
-) -> usize
-    requires { F.IsAlwaysCallable skip }
-    ensures { PutsPlaces (F.post skip) s.now w.now at dst.old pos dst.new result }
-{
-    let row = PlaceRow::new(w, at);
-    let mut next = buffer::put_two(dst, pos, row.count());
-    for place in row {
-        if buffer::MAX_ANSWER_BYTES < next {
-            return next;
-        }
-        next = walk::put_part(dst, next, s, place, skip(place));
-    }
-    next
-}
-
-// Metadata: nothing, or the count and the pairs.
-fn put_metadata(s: &[u8], w: &[u8], at: usize, dst: &mut [u8], pos: usize) -> usize
-    ensures { PutsMetadata s.now w.now at dst.old pos dst.new result }
-{
-    if has_places(w, at) {
-        return put_places(s, w, at, dst, pos, |pair| skip_pair(s, pair));
-    }
-    pos
 }
 
 // The head of an entry that has no metadata of its own: that of the first occurrence, which stands at a place of the train, but for the
@@ -137,21 +96,6 @@ fn put_name(
     walk::put_part(dst, next, s, name, end)
 }
 
-// The head of an entry.
-fn put_head(s: &[u8], w: &[u8], at: usize, dst: &mut [u8], pos: usize) -> usize
-    ensures { PutsHead s.now w.now at dst.old pos dst.new result }
-{
-    let flags = walk::byte(w, at);
-    let first = table::three(w, walk::ahead(w, at, 1));
-    if flags / 4 == 1 {
-        let pairs = walk::ahead(w, at, 4);
-        let next = put_name(s, first, flags, has_places(w, pairs), dst, pos);
-        let end = put_metadata(s, w, pairs, dst, next);
-        return put_dict_id(s, first, dst, end);
-    }
-    put_raw_head(s, first, flags, dst, pos)
-}
-
 // The type of at most so many levels that some bytes begin with.
 fn front_type<'a>(s: &'a [u8], levels: usize) -> &'a [u8]
     ensures { IsFrontType s.now levels result.now }
@@ -181,24 +125,6 @@ fn put_raw(s: &[u8], own: usize, x: usize, levels: usize, dst: &mut [u8], pos: u
     buffer::put(dst, pos, surviving(accumulated, incoming, levels))
 }
 
-// What follows the code of a union: the mode, copied from a place of the train, the count and the children.
-fn put_union(
-    s: &[u8],
-    w: &[u8],
-    mode: usize,
-    at: usize,
-    levels: usize,
-    dst: &mut [u8],
-    pos: usize,
-) -> usize
-    ensures { PutsUnion s.now w.now mode at levels dst.old pos dst.new result }
-{
-    let count = put_copy(s, mode, dst, pos);
-    put_places(s, w, at, dst, count, |member| {
-        skip_member(s, member, levels)
-    })
-}
-
 // Whether a row of entries has any.
 fn has_entries(w: &[u8], at: usize) -> bool
     ensures { HasEntries w.now at result }
@@ -226,97 +152,159 @@ fn count_entries(w: &[u8], at: usize, levels: usize) -> usize
     count
 }
 
-// A field: the head of its entry and its type.
-#[cycle(putting)]
-fn put_entry(s: &[u8], w: &[u8], at: usize, levels: usize, dst: &mut [u8], pos: usize) -> usize
-    ensures { PutsEntry s.now w.now at levels dst.old pos dst.new result }
-{
-    let next = put_head(s, w, at, dst, pos);
-    let first = table::three(w, walk::ahead(w, at, 1));
-    put_type(
-        s,
-        w,
-        table::skip_head(w, at),
-        walk::skip_head(s, first),
-        levels,
-        dst,
-        next,
-    )
+// What is written: the schema that a table spells by places of a train.
+#[derive(Clone, Copy)]
+struct Spelling<'a> {
+    train: &'a [u8],
+    table: &'a [u8],
 }
 
-// A type: as it stands in the train, or its code and what was merged inside.
-#[cycle(putting)]
-fn put_type(
-    s: &[u8],
-    w: &[u8],
-    at: usize,
-    own: usize,
-    levels: usize,
-    dst: &mut [u8],
-    pos: usize,
-) -> usize
-    ensures { PutsType s.now w.now at own levels dst.old pos dst.new result }
-{
-    if levels <= 0 {
-        return pos;
-    }
-    let kind = walk::byte(w, at);
-    let x = table::three(w, walk::ahead(w, at, 1));
-    if kind == RAW {
-        return put_raw(s, own, x, levels, dst, pos);
-    }
-    let inner = walk::ahead(w, at, 4);
-    let next = put_copy(s, x, dst, pos);
-    if kind == OPEN_STRUCT {
-        return put_row(s, w, inner, levels - 1, dst, next);
-    }
-    if kind == OPEN_LIST {
-        return put_entry(s, w, inner, levels - 1, dst, next);
-    }
-    put_union(s, w, x + 1, inner, levels - 1, dst, next)
-}
-
-// The count of a row's entries, and their fields.
-#[cycle(putting)]
-fn put_row(s: &[u8], w: &[u8], at: usize, levels: usize, dst: &mut [u8], pos: usize) -> usize
-    ensures { PutsRow s.now w.now at levels dst.old pos dst.new result }
-{
-    let first = buffer::put_two(dst, pos, count_entries(w, at, levels));
-    put_entries(s, w, at, levels, dst, first)
-}
-
-// The fields of a row. What passes the longest answer is not gone over.
-#[cycle(putting)]
-fn put_entries(s: &[u8], w: &[u8], at: usize, levels: usize, dst: &mut [u8], pos: usize) -> usize
-    ensures { PutsEntries s.now w.now at levels dst.old pos dst.new result }
-{
-    let mut place = at;
-    let mut next = pos;
-    while place < w.len() {
-        if walk::byte(w, place) == table::NO_ENTRY {
-            return next;
+impl Spelling<'_> {
+    // The count of a row of places, and what stands at each of them in the train, up to where `skip` goes. What passes the longest answer is
+    // not gone over.
+    fn put_places<F: Fn(usize) -> usize>(
+        &self,
+        at: usize,
+        dst: &mut [u8],
+        pos: usize,
+        skip: F,
+    ) -> usize
+        requires { F.IsAlwaysCallable skip }
+        ensures { PutsPlaces (F.post skip) self.now.train.now self.now.table.now at dst.old pos dst.new result }
+    {
+        let row = PlaceRow::new(self.table, at);
+        let mut next = buffer::put_two(dst, pos, row.count());
+        for place in row {
+            if buffer::MAX_ANSWER_BYTES < next {
+                return next;
+            }
+            next = walk::put_part(dst, next, self.train, place, skip(place));
         }
-        if buffer::MAX_ANSWER_BYTES < next {
-            return next;
-        }
-        next = put_entry(s, w, place, levels, dst, next);
-        let behind = table::skip_entry(w, place, levels);
-        if behind <= place {
-            return next;
-        }
-        place = behind;
+        next
     }
-    next
-}
 
-// The columns of a sheet: nothing, or the count and the fields.
-fn put_columns(s: &[u8], w: &[u8], at: usize, dst: &mut [u8], pos: usize) -> usize
-    ensures { PutsColumns s.now w.now at dst.old pos dst.new result }
-{
-    if has_entries(w, at) {
-        return put_row(s, w, at, Cursor::LEVELS, dst, pos);
+    // Metadata: nothing, or the count and the pairs.
+    fn put_metadata(&self, at: usize, dst: &mut [u8], pos: usize) -> usize
+        ensures { PutsMetadata self.now.train.now self.now.table.now at dst.old pos dst.new result }
+    {
+        if has_places(self.table, at) {
+            return self.put_places(at, dst, pos, |pair| skip_pair(self.train, pair));
+        }
+        pos
     }
-    pos
+
+    // The head of an entry.
+    fn put_head(&self, at: usize, dst: &mut [u8], pos: usize) -> usize
+        ensures { PutsHead self.now.train.now self.now.table.now at dst.old pos dst.new result }
+    {
+        let flags = walk::byte(self.table, at);
+        let first = table::three(self.table, walk::ahead(self.table, at, 1));
+        if flags / 4 == 1 {
+            let pairs = walk::ahead(self.table, at, 4);
+            let next = put_name(
+                self.train,
+                first,
+                flags,
+                has_places(self.table, pairs),
+                dst,
+                pos,
+            );
+            let end = self.put_metadata(pairs, dst, next);
+            return put_dict_id(self.train, first, dst, end);
+        }
+        put_raw_head(self.train, first, flags, dst, pos)
+    }
+
+    // What follows the code of a union: the mode, copied from a place of the train, the count and the children.
+    fn put_union(&self, mode: usize, at: usize, levels: usize, dst: &mut [u8], pos: usize) -> usize
+        ensures { PutsUnion self.now.train.now self.now.table.now mode at levels dst.old pos dst.new result }
+    {
+        let count = put_copy(self.train, mode, dst, pos);
+        self.put_places(at, dst, count, |member| {
+            skip_member(self.train, member, levels)
+        })
+    }
+
+    // A field: the head of its entry and its type.
+    #[cycle(putting)]
+    fn put_entry(&self, at: usize, levels: usize, dst: &mut [u8], pos: usize) -> usize
+        ensures { PutsEntry self.now.train.now self.now.table.now at levels dst.old pos dst.new result }
+    {
+        let next = self.put_head(at, dst, pos);
+        let first = table::three(self.table, walk::ahead(self.table, at, 1));
+        let own = walk::skip_head(self.train, first);
+        self.put_type(table::skip_head(self.table, at), own, levels, dst, next)
+    }
+
+    // A type: as it stands in the train, or its code and what was merged inside.
+    #[cycle(putting)]
+    fn put_type(&self, at: usize, own: usize, levels: usize, dst: &mut [u8], pos: usize) -> usize
+        ensures { PutsType self.now.train.now self.now.table.now at own levels dst.old pos dst.new result }
+    {
+        if levels <= 0 {
+            return pos;
+        }
+        let x = table::three(self.table, walk::ahead(self.table, at, 1));
+        let inner = walk::ahead(self.table, at, 4);
+        match table::kind_at(self.table, at) {
+            Kind::Raw => put_raw(self.train, own, x, levels, dst, pos),
+            Kind::OpenStruct => {
+                let next = put_copy(self.train, x, dst, pos);
+                self.put_row(inner, levels - 1, dst, next)
+            }
+            Kind::OpenList => {
+                let next = put_copy(self.train, x, dst, pos);
+                self.put_entry(inner, levels - 1, dst, next)
+            }
+            Kind::OpenUnion => {
+                let next = put_copy(self.train, x, dst, pos);
+                self.put_union(x + 1, inner, levels - 1, dst, next)
+            }
+        }
+    }
+
+    // The count of a row's entries, and their fields.
+    #[cycle(putting)]
+    fn put_row(&self, at: usize, levels: usize, dst: &mut [u8], pos: usize) -> usize
+        ensures { PutsRow self.now.train.now self.now.table.now at levels dst.old pos dst.new result }
+    {
+        let first = buffer::put_two(dst, pos, count_entries(self.table, at, levels));
+        self.put_entries(at, levels, dst, first)
+    }
+
+    // The fields of a row. What passes the longest answer is not gone over.
+    #[cycle(putting)]
+    fn put_entries(&self, at: usize, levels: usize, dst: &mut [u8], pos: usize) -> usize
+        ensures { PutsEntries self.now.train.now self.now.table.now at levels dst.old pos dst.new result }
+    {
+        let mut place = at;
+        let mut next = pos;
+        while place < self.table.len() {
+            if walk::byte(self.table, place) == table::NO_ENTRY {
+                return next;
+            }
+            if buffer::MAX_ANSWER_BYTES < next {
+                return next;
+            }
+            next = self.put_entry(place, levels, dst, next);
+            let behind = table::skip_entry(self.table, place, levels);
+            if behind <= place {
+                return next;
+            }
+            place = behind;
+        }
+        next
+    }
+
+    // The columns of a sheet: nothing, or the count and the fields.
+    fn put_columns(&self, at: usize, dst: &mut [u8], pos: usize) -> usize
+        ensures { PutsColumns self.now.train.now self.now.table.now at dst.old pos dst.new result }
+    {
+        if has_entries(self.table, at) {
+            return self.put_row(at, Cursor::LEVELS, dst, pos);
+        }
+        pos
+    }
 }
 
 // The sheet of the schema that the table w spells, from the train s. It gives the length, also in a buffer that is too short.
@@ -326,6 +314,7 @@ pub fn emit(s: &[u8], w: &[u8], dst: &mut [u8]) -> usize
     let columns = table::skip_places(w, 0);
     let map = usize::from(has_places(w, 0)) + usize::from(has_entries(w, columns)) * 2;
     let metadata = buffer::put_one(dst, 0, map as u8);
-    let next = put_metadata(s, w, 0, dst, metadata);
-    put_columns(s, w, columns, dst, next)
+    let spelling = Spelling { train: s, table: w };
+    let next = spelling.put_metadata(0, dst, metadata);
+    spelling.put_columns(columns, dst, next)
 }

@@ -2,7 +2,7 @@
 use mathlib.Core.Path.{refl}
 use Rattle.emit.proofs.Copies.{copying_begin, copying_again, copying_beyond, copying_done, places_put}
 use borrow.Author.Rules.{rules}
-use Rattle.emit.proofs.put_places.Goals as goal
+use Rattle.emit.proofs.Spelling.put_places.Goals as goal
 
 pub loop-place-init : goal.loop-place-init
 loop-place-init g c = (tt, tt, copying_begin _ _ _ _ _ _ (rw c.into_iter-place-iterator.ensures.into_iter_gives c.new-row.ensures), refl)
