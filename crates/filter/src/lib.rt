@@ -8,20 +8,10 @@ ghost use Rattle.model.specs.Call.{filter_call};
 ghost use Rattle.buffer.specs.Leaves.{leaves};
 ghost use Rattle.filter.specs.Filters.{CopiesTo, FiltersLeaf, FiltersType, FiltersField, FiltersChild, FiltersRow, FiltersCounted, FiltersChildren, FiltersNested, FiltersInner, FiltersEncoded, FiltersSheet, FiltersColumns, unless_nothing};
 
-use buffer::Outcome;
-use sheet::{Cursor, Step};
-
-// The number of the refusal: the mask's length is not the leaf count.
-const MASK_LENGTH: u8 = 12;
-
-// The codes whose children the filter treats each in a way of its own.
-const STRUCT: usize = 32;
-
-const UNION: usize = 33;
-
-const DICTIONARY: usize = 34;
-
-const RUN_END_ENCODED: usize = 40;
+use buffer::{Number, Refusal};
+use layout::{DICTIONARY, RUN_END_ENCODED, STRUCT, UNION};
+use sheet::Cursor;
+use walk::Elements;
 
 // How far a walk came: the place in the sheet, the number of the next leaf, and the position in the work buffer.
 #[derive(Clone, Copy)]
@@ -110,7 +100,7 @@ impl Sieve<'_> {
     fn filter_type(&self, from: Reach, levels: usize, through: bool, w: &mut [u8]) -> Option<Reach>
         ensures { FiltersType self.now.sheet.now from.at levels through self.now.mask.now from.leaf w.old from.written w.new result }
     {
-        if levels <= 0 {
+        if levels == 0 {
             return None;
         }
         let code = walk::byte(self.sheet, from.at);
@@ -182,13 +172,13 @@ impl Sieve<'_> {
     fn filter_counted(&self, from: Reach, before: usize, levels: usize, w: &mut [u8]) -> Reach
         ensures { FiltersCounted self.now.sheet.now from.at before levels self.now.mask.now from.leaf w.old from.written w.new result }
     {
-        let count = walk::two(self.sheet, from.at);
+        let children = Elements::counted(self.sheet, from.at);
         let start = Reach {
-            at: walk::ahead(self.sheet, from.at, 2),
+            at: children.at,
             written: buffer::put_two(w, from.written, 0),
             ..from
         };
-        let row = self.filter_row(start, count, before, levels, w);
+        let row = self.filter_row(start, children.count, before, levels, w);
         buffer::put_two(w, from.written, row.kept);
         row.reach.unless_nothing(from, start)
     }
@@ -250,9 +240,9 @@ impl Sieve<'_> {
     {
         let map = walk::byte(self.sheet, 0);
         let metadata = walk::ahead(self.sheet, 0, 1);
-        let place = walk::skip_metadata_if(self.sheet, metadata, map % 2 == 1);
+        let place = walk::skip_if(self.sheet, metadata, walk::bit(map, 0), walk::skip_metadata);
         let start = walk::put_part(w, 0, self.sheet, 0, place);
-        if map / 2 % 2 == 1 {
+        if walk::bit(map, 1) {
             return self.filter_columns(place, w, start);
         }
         Reach {
@@ -264,25 +254,26 @@ impl Sieve<'_> {
 }
 
 // `Fields::try_filter_leaves`. "Keeping schema metadata is added." The leaves are counted on the way, and 12 is decided at the end.
-pub fn filter(sheet: &[u8], mask: &[u8], work: &mut [u8], answer: &mut [u8]) -> Outcome
+pub fn filter(
+    sheet: &[u8],
+    mask: &[u8],
+    work: &mut [u8],
+    answer: &mut [u8],
+) -> Result<usize, Refusal>
     ensures { leaves result answer.new work.new ≡ filter_call sheet.now mask.now work.old answer.old }
 {
-    if buffer::lacks_room(work.len(), sheet.len()) {
-        return Outcome::refused(Outcome::WORK_BUFFER_SHORT, 0);
-    }
-    let read = sheet::read_sheet(sheet);
-    match read {
-        Step::Refused(number, place) => buffer::refuse(work, number, place),
-        Step::Next(_) => {
+    buffer::work_fits(work.len(), sheet.len())?;
+    match sheet::read_sheet(sheet) {
+        Err(refusal) => buffer::refuse(work, refusal),
+        Ok(_) => {
             let sieve = Sieve { sheet, mask };
             let reach = sieve.filter_sheet(work);
             if reach.leaf != mask.len() {
-                return buffer::refuse(work, MASK_LENGTH, 0);
+                return buffer::refuse(work, Refusal::from(Number::MaskLength));
             }
-            let end = reach.written;
-            let outcome = buffer::write_answer(answer, &work[..end]);
+            let answered = buffer::write_answer(answer, &work[..reach.written]);
             buffer::clear(work);
-            outcome
+            answered
         }
     }
 }

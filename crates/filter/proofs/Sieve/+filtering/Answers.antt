@@ -21,7 +21,7 @@ pub filter_children-returns : goal.filter_children-returns
 filter_children-returns t c = others_filtered _ _ _ c.if-code-eq-STRUCT.false c.if-code-eq-UNION.false c.filter_field.ensures
 
 pub filter_counted-returns : goal.filter_counted-returns
-filter_counted-returns t c = counted_filtered _ _ _ c.ahead.ensures c.two-count.ensures.0 c.put_two.ensures c.filter_row-row.ensures c.put_two-2.ensures c.unless_nothing.ensures
+filter_counted-returns t c = counted_filtered _ _ _ c.counted-children.ensures.at c.counted-children.ensures.count c.put_two.ensures c.filter_row-row.ensures c.put_two-2.ensures c.unless_nothing.ensures
 
 pub filter_encoded-returns-then-code-eq-DICTIONARY : goal.filter_encoded-returns-then-code-eq-DICTIONARY
 filter_encoded-returns-then-code-eq-DICTIONARY t c = dictionary_filtered _ _ _ c.if-code-eq-DICTIONARY.true c.ahead-first.ensures c.skip_type-value.ensures c.filter_inner.ensures
@@ -61,8 +61,8 @@ filter_row-loop-preserved t c =
 pub filter_row-returns : goal.filter_row-returns
 filter_row-returns t c = λ l front ks e h n z. turns_done _ _ _ _ (c.loop.invariant.2 l front e h) (omega (arith, c.loop-test.false)) ks n z
 
-pub filter_type-returns-then-levels-le0 : goal.filter_type-returns-then-levels-le0
-filter_type-returns-then-levels-le0 t c = no_level _ _ _ c.if-levels-le0.true
+pub filter_type-returns-then-levels-eq0 : goal.filter_type-returns-then-levels-eq0
+filter_type-returns-then-levels-eq0 t c = no_level _ _ _ (omega (arith, c.if-levels-eq0.true))
 
 pub filter_type-returns-then-holds_fields : goal.filter_type-returns-then-holds_fields
 filter_type-returns-then-holds_fields t c = type_held _ _ _ c.byte-code.ensures.0 c.holds_fields.ensures c.if-holds_fields.true c.filter_nested.ensures
