@@ -26,52 +26,21 @@ const WORK_BYTES: usize = buffer::WORK_BYTES_PER_SHEET_BYTE * MAX_PROGRAM_BYTES;
 // The longest line: `0 0 `, two digits for each byte of an answer that is as long as the longest input, and the line feed.
 pub const MAX_LINE_BYTES: usize = 4 + 2 * MAX_PROGRAM_BYTES + 1;
 
-// A number below 2^64 has no more digits.
-const MAX_DIGITS: usize = 20;
-
-// A number in decimal, of at most so many digits: those before the last one first.
-fn put_digits(dst: &mut [u8], at: usize, n: usize, digits: usize) -> usize
-    ensures { Puts (decimal_of digits n) dst.old at dst.new result }
-{
-    if digits == 0 {
-        return at;
-    }
-    if n < 10 {
-        return buffer::put_one(dst, at, b'0' + n as u8);
-    }
-    let before_last = put_digits(dst, at, n / 10, digits - 1);
-    buffer::put_one(dst, before_last, b'0' + (n % 10) as u8)
-}
-
 // A number in decimal, with no zero in front.
 pub fn put_decimal(dst: &mut [u8], at: usize, n: usize) -> usize
     ensures { Puts (decimal n) dst.old at dst.new result }
 {
-    put_digits(dst, at, n, MAX_DIGITS)
-}
-
-// A digit of lower-case hex.
-fn hex_digit(d: u8) -> u8
-    requires { d < 16 }
-    ensures { result ≡ hex_digit d }
-{
-    if d < 10 {
-        return b'0' + d;
-    }
-    b'a' + (d - 10)
+    let mut digits = itoa::Buffer::new();
+    buffer::put(dst, at, digits.format(n).as_bytes())
 }
 
 // Bytes in lower-case hex: two digits each, the higher one first.
 pub fn put_hex(dst: &mut [u8], at: usize, bytes: &[u8]) -> usize
     ensures { Puts (each hex_byte bytes.now) dst.old at dst.new result }
 {
-    let mut end = at;
-    let mut i = 0;
-    while i < bytes.len() {
-        let b = bytes[i];
-        let pair = [hex_digit(b / 16), hex_digit(b % 16)];
-        end = buffer::put(dst, end, &pair);
-        i += 1;
+    let end = at.saturating_add(2 * bytes.len());
+    if end <= dst.len() {
+        let _ = hex::encode_to_slice(bytes, &mut dst[at..end]);
     }
     end
 }
@@ -84,10 +53,7 @@ fn put_answer(dst: &mut [u8], at: usize, outcome: Outcome, answer: &[u8]) -> usi
     if outcome.number != Outcome::ACCEPTED {
         return buffer::put_one(dst, at, b'-');
     }
-    let length = outcome.length;
-    if answer.len() <= length {
-        return put_hex(dst, at, answer);
-    }
+    let length = outcome.length.min(answer.len());
     put_hex(dst, at, &answer[..length])
 }
 
@@ -95,7 +61,7 @@ fn put_answer(dst: &mut [u8], at: usize, outcome: Outcome, answer: &[u8]) -> usi
 pub fn put_line(dst: &mut [u8], outcome: Outcome, answer: &[u8]) -> usize
     ensures { (work : Bytes) → Puts (line_of (leaves outcome answer.now work)) dst.old 0 dst.new result }
 {
-    let number = put_decimal(dst, 0, outcome.number as usize);
+    let number = put_decimal(dst, 0, usize::from(outcome.number));
     let space = buffer::put_one(dst, number, b' ');
     let place = put_decimal(dst, space, outcome.place);
     let second_space = buffer::put_one(dst, place, b' ');
@@ -118,8 +84,7 @@ fn put_program_line(dst: &mut [u8], input: &[u8], parked: bool) -> usize
     ensures { Puts (program_line parked input.now) dst.old 0 dst.new result }
 {
     if MAX_PROGRAM_BYTES < input.len() {
-        let none = [0u8; 0];
-        return put_line(dst, Outcome::refused(INPUT_TOO_LONG, 0), &none);
+        return put_line(dst, Outcome::refused(INPUT_TOO_LONG, 0), &[]);
     }
     put_merged(dst, input, parked)
 }
