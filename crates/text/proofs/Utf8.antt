@@ -8,14 +8,14 @@ use lib.ListN.{length, drop, get_or, replicate, length-replicate, length-drop, d
 use lib.Seq.{drop-drop}
 use lib.Dec.{T, eqb}
 use borrow.Author.Tests.{eqb-true, ltb-true, ltb-false, lt-ltb, le-ltb}
+use Rattle.std.specs.Prelude.{Result, Ok, Err}
 use Rattle.model.specs.Bytes.{Bytes, all, same}
 use Rattle.model.specs.Text.{Range, inside, tail, rows, row_of, utf8, utf8_from}
 use Rattle.model.proofs.Lists.{and_true as both_true}
 use Rattle.model.proofs.Computed.{all_below, at_below}
 use Rattle.model.proofs.ByteStrings.{same_eq, drop_next}
 use Rattle.text.specs.Text.{text_of, ahead, ranges_of, meets, ascii}
-use Rattle.text.specs.declared.Text.{Text}
-use Rattle.text.specs.declared.Text.TheVariants.{Valid, Broken}
+use Rattle.text.specs.declared.NotUtf8.{NotUtf8}
 use Rattle.text.specs.declared.Rest.{Rest}
 
 -- The row of a first byte
@@ -135,10 +135,10 @@ ascii_end p i m h = rw (drop_of_length-le p h, and-true)
 
 -- The answer, for whoever calls `check`
 
-pub valid_true : (t : Bool) {r : Text} → r ≡ text_of t → r ≡ Valid → t ≡ true
+pub valid_true : (t : Bool) {r : Result Unit NotUtf8} → r ≡ text_of t → r ≡ Ok tt → t ≡ true
 valid_true true e h = refl
 valid_true false e h = cc
 
-pub broken_false : (t : Bool) {r : Text} → r ≡ text_of t → r ≡ Broken → t ≡ false
+pub broken_false : (t : Bool) {r : Result Unit NotUtf8} {x : NotUtf8} → r ≡ text_of t → r ≡ Err x → t ≡ false
 broken_false true e h = cc
 broken_false false e h = refl

@@ -1,15 +1,14 @@
 -- The answer of the UTF-8 check, and what its parts stand for.
-use Rattle.std.specs.Prelude.{ℕ, zero, suc, List, [], ◌∷◌, Bool, true, false, ◌&&◌, replicate, ltb}
+use Rattle.std.specs.Prelude.{ℕ, zero, suc, List, [], ◌∷◌, Bool, true, false, ◌&&◌, Result, Ok, Err, replicate, ltb}
 use Rattle.model.specs.Bytes.{Bytes}
 use Rattle.model.specs.Text.{Range, inside, tail}
-use Rattle.text.specs.declared.Text.{Text}
-use Rattle.text.specs.declared.Text.TheVariants.{Valid, Broken}
+use Rattle.text.specs.declared.NotUtf8.{NotUtf8}
 use Rattle.text.specs.declared.Rest.{Rest}
 
 -- what the check answers where the bytes are text, and where they are not
-abbrev pub text_of : Bool → Text
-text_of true = Valid
-text_of false = Broken
+abbrev pub text_of : Bool → Result Unit NotUtf8
+text_of true = Ok tt
+text_of false = Err (record {})
 
 -- so many ranges, the first of them given
 abbrev pub ahead : ℕ → Range → List Range

@@ -8,12 +8,9 @@ ghost use Rattle.model.specs.Bytes.{num, all, same_bytes, below};
 ghost use Rattle.model.specs.Text.{inside, rows, row_of, utf8};
 ghost use Rattle.text.specs.Text.{text_of, ranges_of, meets, ascii};
 
-// What the check of text answers. Not a bool, since `Broken` is to say where.
-#[derive(Clone, Copy)]
-pub enum Text {
-    Valid,
-    Broken,
-}
+// What the check of text answers where the bytes are none. Not a bool, since it is to say where they break.
+#[derive(Clone, Copy, Debug, PartialEq, Eq)]
+pub struct NotUtf8;
 
 // What must follow the first byte of a character: how many bytes, then the lowest and the highest that the next may be.
 // Each later one is 0x80 to 0xBF.
@@ -89,22 +86,22 @@ fn is_ascii(p: &[u8]) -> bool
 
 // Whether the bytes are text. Most are ASCII, which is found out first; else it goes character by character, so that it
 // stands at the first ill-formed one where it stops.
-pub fn check(p: &[u8]) -> Text
+pub fn check(p: &[u8]) -> Result<(), NotUtf8>
     ensures { result ≡ text_of (utf8 p.now) }
 {
     if is_ascii(p) {
-        return Text::Valid;
+        return Ok(());
     }
     let mut i = 0;
     while i < p.len() {
         let rest = after_first(p[i]);
         let next = i + 1;
         if !follows(p, next, rest) {
-            return Text::Broken;
+            return Err(NotUtf8);
         }
         i = next + rest.0;
     }
-    Text::Valid
+    Ok(())
 }
 
 // A byte as a number of eight bytes.
