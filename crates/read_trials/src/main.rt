@@ -5,11 +5,11 @@
 
 ghost use Rattle.std.specs.Prelude.{◌≤◌};
 
-use sheet::Step;
+use buffer::{Outcome, Refusal};
 use std::io;
 
 // Reads a sheet of one column with a name of so many bytes: it has 7 more. Where the name has 65,529, the code ends past byte 65,535.
-fn read_long_name(bytes: u16) -> Step
+fn read_long_name(bytes: u16) -> Result<usize, Refusal>
     requires { bytes ≤ 65529 }
 {
     let mut sheet = [0u8; 65536];
@@ -20,12 +20,9 @@ fn read_long_name(bytes: u16) -> Step
 }
 
 // A line: what was read, number, space, place.
-fn show(rt: &impl Print, what: &str, read: Step) -> io::Result<()> {
-    let (number, place) = match read {
-        Step::Next(_) => (0, 0),
-        Step::Refused(number, place) => (number, place),
-    };
-    println!(rt; "{what}: {number} {place}")
+fn show(rt: &impl Print, what: &str, read: Result<usize, Refusal>) -> io::Result<()> {
+    let outcome = Outcome::from(read);
+    println!(rt; "{what}: {} {}", outcome.number, outcome.place)
 }
 
 fn main(rt: HostRuntime) -> io::Result<()> {
