@@ -3,6 +3,7 @@ use Prim.Native.Nat.{ℕ, suc, ◌+◌, ◌*◌, ◌-◌, min, ◌/◌, ◌%◌,
 use native.Mathlib.Omega.{arith}
 use mathlib.Core.Path.{◌≡◌, refl, sym, ap, ◌∙◌}
 use mathlib.Core.List.{[], ◌∷◌, ◌++◌}
+use mathlib.Core.Bool.{false}
 use lib.Dec.{eqb, eqb→eq}
 use lib.ListN.{length, take, drop, get_or, length-drop}
 use lib.Seq.{take_all, length-take-le}
@@ -17,10 +18,14 @@ use Rattle.model.specs.Bytes.{Bytes, AreBytes, choose}
 use Rattle.model.specs.Sheet.{each}
 use Rattle.model.specs.Program.{space, minus, line_feed, decimal_of, decimal, hex_digit, hex_byte, hex_or_minus, line_of}
 use Rattle.model.proofs.Computed.{at_below}
+use Rattle.std.specs.Prelude.{Result, Ok, Err}
 use Rattle.buffer.specs.declared.Outcome.{Outcome}
+use Rattle.buffer.specs.declared.refusal.Number.{Number}
+use Rattle.buffer.specs.declared.refusal.Refusal.{Refusal}
+use Rattle.buffer.specs.Refusals.{number_of}
 use Rattle.buffer.specs.Buffer.{pasted}
 use Rattle.buffer.specs.Puts.{Puts}
-use Rattle.buffer.specs.Leaves.{leaves}
+use Rattle.buffer.specs.Leaves.{leaves, outcome_of}
 use Rattle.buffer.proofs.Puts.{puts_same, puts_join}
 use Rattle.line.proofs.Lengths.{length_hex}
 
@@ -41,6 +46,9 @@ hex_text [] byte = refl
 hex_text (b ∷ s) byte =
     let fits : b < 256 = byte 0 in
     rw (hex_text_digit (b / 16) (omega arith), hex_text_digit (b % 16) (omega arith), hex_text s (λ k. byte (suc k)))
+
+not_accepted : (n : Number) → eqb (number_of n) accepted ≡ false
+not_accepted n = grind arith
 
 module _ {w : Bytes} {p : ℕ} where
   -- the digits of s are counted, up to the largest position, and the buffer lacks room
@@ -67,33 +75,30 @@ module _ {w : Bytes} {p : ℕ} where
 
   -- The answer, of a call that left this answer buffer
 
-  module _ (o : Outcome) (answer work : Bytes) {w' : Bytes} {q : ℕ} where
-    pub answer_refused : (o.number ≡ accepted → ⊥) → Puts (minus ∷ []) w p w' q → Puts (hex_or_minus (leaves o answer work)) w p w' q
+  module _ {r : Result ℕ Refusal} (answer work : Bytes) {w' : Bytes} {q : ℕ} where
+    pub answer_refused : {x : Refusal} → r ≡ Err x → Puts (minus ∷ []) w p w' q → Puts (hex_or_minus (leaves r answer work)) w p w' q
     unfolding hex_or_minus leaves choose
-    answer_refused h f = rw (ne_eqb o.number accepted h) f
+    answer_refused {x} e f = rw (e, not_accepted x.0) f
 
-    pub answer_part : o.number ≡ accepted → Puts (each hex_byte (take o.length answer)) w p w' q → Puts (hex_or_minus (leaves o answer work)) w p w' q
+    pub answer_part : {n : ℕ} → r ≡ Ok n → Puts (each hex_byte (take n answer)) w p w' q → Puts (hex_or_minus (leaves r answer work)) w p w' q
     unfolding hex_or_minus leaves choose
-    answer_part h f = rw (eq-eqb o.number accepted h) f
-
-    -- no more bytes than the buffer has
-    pub answer_whole : o.number ≡ accepted → length answer ≤ o.length → Puts (each hex_byte answer) w p w' q → Puts (hex_or_minus (leaves o answer work)) w p w' q
-    answer_whole h n f = answer_part h (puts_same (sym (ap (each hex_byte) (take_all o.length answer n))) f)
+    answer_part e f = rw e f
 
 -- The line
 
-pub line_put : (o : Outcome) (answer work : Bytes) {w w₁ w₂ w₃ w₄ w₅ w₆ : Bytes} {p q₁ q₂ q₃ q₄ q₅ q₆ : ℕ}
+pub line_put : (r : Result ℕ Refusal) (o : Outcome) (answer work : Bytes) {w w₁ w₂ w₃ w₄ w₅ w₆ : Bytes} {p q₁ q₂ q₃ q₄ q₅ q₆ : ℕ} → o ≡ outcome_of r
     → Puts (decimal o.number) w p w₁ q₁ → Puts (space ∷ []) w₁ q₁ w₂ q₂
     → Puts (decimal o.place) w₂ q₂ w₃ q₃ → Puts (space ∷ []) w₃ q₃ w₄ q₄
-    → Puts (hex_or_minus (leaves o answer work)) w₄ q₄ w₅ q₅ → Puts (line_feed ∷ []) w₅ q₅ w₆ q₆
-    → Puts (line_of (leaves o answer work)) w p w₆ q₆
+    → Puts (hex_or_minus (leaves r answer work)) w₄ q₄ w₅ q₅ → Puts (line_feed ∷ []) w₅ q₅ w₆ q₆
+    → Puts (line_of (leaves r answer work)) w p w₆ q₆
 unfolding line_of leaves
-line_put o answer work f₁ f₂ f₃ f₄ f₅ f₆ =
-    let shown = hex_or_minus (leaves o answer work) in
+line_put r o answer work e f₁ f₂ f₃ f₄ f₅ f₆ =
+    let shown = hex_or_minus (leaves r answer work) in
     let behind = shown ++ (line_feed ∷ []) in
     let second = decimal o.place ++ (space ∷ behind) in
-    puts_join (decimal o.number) (space ∷ second) f₁
+    puts_same (ap (λ (o : Outcome). decimal o.number ++ (space ∷ (decimal o.place ++ (space ∷ behind)))) e)
+    (puts_join (decimal o.number) (space ∷ second) f₁
     (puts_join (space ∷ []) second f₂
     (puts_join (decimal o.place) (space ∷ behind) f₃
     (puts_join (space ∷ []) behind f₄
-    (puts_join shown (line_feed ∷ []) f₅ f₆))))
+    (puts_join shown (line_feed ∷ []) f₅ f₆)))))

@@ -17,7 +17,7 @@ mod lent;
 mod list;
 mod operation;
 
-use buffer::Outcome;
+use buffer::{Number, Outcome};
 use operation::{Operation, Request};
 use std::io;
 use std::io::{ErrorKind, Read};
@@ -33,15 +33,12 @@ const WORK_SPACE: usize = 300000;
 
 // Whether a call that left this gave what the Rust gives.
 fn settled(outcome: Outcome, told: Outcome, given: &[u8], work: &[u8], answer: &[u8]) -> bool {
-    let same = outcome.number == told.number
-        && outcome.place == told.place
-        && outcome.length == told.length;
-    let work_left = if told.number == Outcome::WORK_BUFFER_SHORT {
+    let work_left = if told.number == u8::from(Number::WorkBufferShort) {
         lent::untouched(work, 0)
     } else {
         lent::cleared(work)
     };
-    same && work_left && lent::holds(answer, given)
+    outcome == told && work_left && lent::holds(answer, given)
 }
 
 // Whether the call of the list's next request agrees. The buffers are filled with a pattern before it, so that a byte written is seen.
@@ -53,9 +50,13 @@ fn agrees(input: &mut impl Read, operation: Operation) -> io::Result<bool> {
     let (mut first, mut second, mut given) = ([0; SPACE], [0; SPACE], [0; SPACE]);
     let first = list::next_bytes(input, &mut first)?;
     let second = list::next_bytes(input, &mut second)?;
-    let told_number = list::next_u8(input)?;
-    let place = list::next_usize(input)?;
+    let (told_number, place) = (list::next_u8(input)?, list::next_usize(input)?);
     let given = list::next_bytes(input, &mut given)?;
+    let told = Outcome {
+        number: told_number,
+        place,
+        length: given.len(),
+    };
     lent::fill(work);
     lent::fill(answer);
     let request = Request {
@@ -63,13 +64,8 @@ fn agrees(input: &mut impl Read, operation: Operation) -> io::Result<bool> {
         second,
         number,
     };
-    let outcome = operation.call(request, work, answer);
-    let told = Outcome {
-        number: told_number,
-        place,
-        length: given.len(),
-    };
-    Ok(settled(outcome, told, given, work, answer))
+    let answered = operation.call(request, work, answer);
+    Ok(settled(Outcome::from(answered), told, given, work, answer))
 }
 
 // The next requests of one operation, in order, to the first that does not agree: how many agree.

@@ -1,5 +1,5 @@
 // The operations of the list.
-use buffer::Outcome;
+use buffer::Refusal;
 use std::fmt;
 
 // What a call is given: the sheet, the train or the ids; the other sheet, the name, list, mask or separator; a count of fields or a level.
@@ -48,7 +48,12 @@ impl Operation {
         Operation::MergeParkedFirst,
     ];
 
-    pub fn call(self, request: Request<'_>, work: &mut [u8], answer: &mut [u8]) -> Outcome {
+    pub fn call(
+        self,
+        request: Request<'_>,
+        work: &mut [u8],
+        answer: &mut [u8],
+    ) -> Result<usize, Refusal> {
         let Request {
             first,
             second,

@@ -91,8 +91,8 @@ fn long_names(rt: &impl Print, what: &str, second: u16) -> io::Result<()>
     train[last] = 2;
     train[..6].copy_from_slice(b"\x02\x01\x00\x04\xfa\x7f");
     train[32768..32776].copy_from_slice(&[2, 2, 1, 0, 4, low, high, b'b']);
-    let outcome = try_merge::merge(train, &mut work, &mut answer, false);
-    show_length(rt, what, outcome)
+    let answered = try_merge::merge(train, &mut work, &mut answer, false);
+    show_length(rt, what, answered)
 }
 
 pub fn merges(rt: &impl Print) -> io::Result<()> {
