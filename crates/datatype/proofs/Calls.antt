@@ -1,10 +1,11 @@
 -- What two sheets that are read answer.
 use Prim.Native.Nat.{ℕ}
 use native.Mathlib.Omega.{arith}
-use mathlib.Core.Path.{◌≡◌, sym, ap, ◌∙◌}
+use mathlib.Core.Path.{◌≡◌, refl, sym, ap, ◌∙◌}
 use mathlib.Core.List.{[], ◌∷◌}
-use mathlib.Core.Bool.{Bool}
+use mathlib.Core.Bool.{Bool, true, false}
 use lib.ListN.{length}
+use mir.Val.{bool_byte}
 use Rattle.model.specs.Bytes.{Bytes, AreBytes, Every, flag}
 use Rattle.model.specs.Tree.{Schema}
 use Rattle.model.specs.Tree.Children.{counted}
@@ -37,6 +38,11 @@ two_exact s t b c =
     next_holds (sheet_exact s b) λ x e h.
     next_holds (shifted_holds {P = Exact t} (length s) (sheet_exact t c)) λ y e k.
     value {a = (x, y)} (h, k)
+
+-- the byte of a yes or a no
+pub bool_flag : (b : Bool) → bool_byte b ≡ flag 1 b
+bool_flag true = refl
+bool_flag false = refl
 
 next_refused : {e n p : ℕ} → Step.Next e ≡ Step.Refused n p → ⊥
 next_refused h = let z : ◌≡◌ {A = ℕ} 0 1 = cc in omega arith

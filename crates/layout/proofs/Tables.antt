@@ -1,71 +1,43 @@
--- The kinds of all codes, in two lists: they are those of the definition's table of the types, and the code's stretches of codes have them.
-use Prim.Native.Nat.{ℕ, suc, ◌+◌, ◌-◌, ◌≤◌, ◌<◌}
-use Prim.{Dec, yes, no}
+-- Stretches of the table of the types that have the same parameters, or the same children.
+use Prim.Native.Nat.{ℕ, ◌+◌, ◌-◌, ◌≤◌, ◌<◌}
 use native.Mathlib.Omega.{arith}
-use native.Mathlib.Decide.{dec_lt}
-use mathlib.Core.Path.{◌≡◌, refl, sym, ap, ◌∙◌}
-use mathlib.Core.List.{List, [], ◌∷◌}
-use mathlib.Core.Bool.{Bool, true, false}
-use lib.ListN.{get_or, get_or-map, get_or-eq_default}
-use lib.Dec.{T, eqb}
-use borrow.Author.Tests.{eqb-true}
-use Rattle.model.proofs.Computed.{all_below, at_below}
+use mathlib.Core.Path.{◌≡◌, sym, ap, ◌∙◌}
+use mathlib.Core.List.{map}
+use lib.ListN.{get_or, get_or-map, get_or-eq_default, take, drop, replicate}
+use Rattle.std.proofs.lemmas.List.{get_or-replicate, get_or-take, get_or-drop}
 use Rattle.model.specs.Tree.{Layout, table, layout, leaf}
-use Rattle.layout.specs.Kinds.{params_by, children_by}
+use Rattle.layout.specs.declared.ParamsKind.{ParamsKind}
+use Rattle.layout.specs.declared.ParamsKind.TheVariants.{None}
+use Rattle.layout.specs.declared.ChildrenKind.{ChildrenKind}
+use Rattle.layout.specs.declared.ChildrenKind.TheVariants.{Fields}
+use Rattle.layout.specs.Kinds.{params_of, children_of}
 
-unfoldable pub params : List ℕ
-params =
-    0 ∷ 0 ∷ 0 ∷ 0 ∷ 0 ∷ 0 ∷ 0 ∷ 0 ∷ 0 ∷ 0 ∷ 0 ∷ 0 ∷ 0 ∷ 1 ∷ 0 ∷ 0 ∷ 2 ∷ 2 ∷ 2 ∷ 3 ∷ 0 ∷ 4 ∷ 0 ∷ 0 ∷ 0 ∷ 0 ∷ 0 ∷ 0 ∷ 0 ∷ 4 ∷ 0 ∷ 0 ∷ 0 ∷ 5 ∷ 0 ∷ 6 ∷ 6 ∷ 6 ∷ 6
-    ∷ 5 ∷ 0 ∷ []
+-- a whole stretch, by computing it once
+within : {A : Type 0} (f : Layout → A) (a : A) (low n : ℕ) → replicate n a ≡ take n (drop low (map f table)) → (code : ℕ) → low ≤ code → code < low + n → a ≡ f (layout code)
+unfolding layout
+within f a low n same code h k =
+    let i = code - low in
+    let at : low + i ≡ code = omega arith in
+    let below : i < n = omega arith in
+    sym (get_or-replicate n i a (f leaf) below) ∙ ap (λ s. get_or s i (f leaf)) same ∙ get_or-take n (drop low (map f table)) i (f leaf) below
+    ∙ get_or-drop low (map f table) i (f leaf) ∙ ap (λ c. get_or (map f table) c (f leaf)) at ∙ get_or-map f table code leaf
 
-unfoldable pub children : List ℕ
-children =
-    0 ∷ 0 ∷ 0 ∷ 0 ∷ 0 ∷ 0 ∷ 0 ∷ 0 ∷ 0 ∷ 0 ∷ 0 ∷ 0 ∷ 0 ∷ 0 ∷ 0 ∷ 0 ∷ 0 ∷ 0 ∷ 0 ∷ 0 ∷ 0 ∷ 0 ∷ 0 ∷ 0 ∷ 0 ∷ 0 ∷ 0 ∷ 1 ∷ 1 ∷ 1 ∷ 1 ∷ 1 ∷ 4 ∷ 5 ∷ 3 ∷ 0 ∷ 0 ∷ 0 ∷ 0
-    ∷ 1 ∷ 2 ∷ []
+pub params_within : (k : ParamsKind) (low n : ℕ) → replicate n (params_of k) ≡ take n (drop low (map (λ (l : Layout). l.params) table))
+    → (code : ℕ) → low ≤ code → code < low + n → params_of k ≡ (layout code).params
+params_within k = within (λ l. l.params) (params_of k)
 
-pub params_law : (c : ℕ) → params_by (get_or params c 0) ≡ (layout c).params
-unfolding params params_by layout table
-params_law c = sym (get_or-map params_by params c 0) ∙ get_or-map (λ (l : Layout). l.params) table c leaf
+pub children_within : (k : ChildrenKind) (low n : ℕ) → replicate n (children_of k) ≡ take n (drop low (map (λ (l : Layout). l.children) table))
+    → (code : ℕ) → low ≤ code → code < low + n → children_of k ≡ (layout code).children
+children_within k = within (λ l. l.children) (children_of k)
 
-pub children_law : (c : ℕ) → children_by (get_or children c 0) ≡ (layout c).children
-unfolding children children_by layout table
-children_law c = sym (get_or-map children_by children c 0) ∙ get_or-map (λ (l : Layout). l.children) table c leaf
+past : (code : ℕ) → 41 ≤ code → leaf ≡ layout code
+unfolding table layout
+past code h = sym (get_or-eq_default table leaf h)
 
-is_true : (t : Bool) → T t → t ≡ true
-is_true true h = refl
-is_true false h = absurd h
+pub params_past : (code : ℕ) → 41 ≤ code → params_of None ≡ (layout code).params
+unfolding params_of
+params_past code h = ap (λ (l : Layout). l.params) (past code h)
 
--- one kind at each code of a stretch, by a computed test at all of them
-kind_within : (kinds : List ℕ) (n low high : ℕ) → T (all_below (λ k. eqb n (get_or kinds (low + k) 0)) (suc high - low)) → (c : ℕ) → low ≤ c → c ≤ high → n ≡ get_or kinds c 0
-kind_within kinds n low high t c h k =
-    let e : low + (c - low) ≡ c = omega arith in
-    rw e at (eqb-true n (get_or kinds (low + (c - low)) 0) (is_true _ (at_below _ (suc high - low) t (c - low) (omega arith))))
-
-pub params_within : (n low high : ℕ) → T (all_below (λ k. eqb n (get_or params (low + k) 0)) (suc high - low)) → (c : ℕ) → low ≤ c → c ≤ high → params_by n ≡ (layout c).params
-params_within n low high t c h k = ap params_by (kind_within params n low high t c h k) ∙ params_law c
-
-pub children_within : (n low high : ℕ) → T (all_below (λ k. eqb n (get_or children (low + k) 0)) (suc high - low)) → (c : ℕ) → low ≤ c → c ≤ high → children_by n ≡ (layout c).children
-children_within n low high t c h k = ap children_by (kind_within children n low high t c h k) ∙ children_law c
-
-pub zero_le : {c : ℕ} → 0 ≤ c
-zero_le = omega arith
-
-pub le_of_lt : {c n : ℕ} → c < n + 1 → c ≤ n
-le_of_lt h = omega (arith, h)
-
--- beyond a code that it is not
-pub beyond : {c n : ℕ} → n ≤ c → (c ≡ n → ⊥) → n + 1 ≤ c
-beyond h d = omega (arith, h, d)
-
--- past the last that has any, a code has nothing
-pub params_past : (c : ℕ) → 39 ≤ c → (c ≡ 39 → ⊥) → params_by 0 ≡ (layout c).params
-unfolding params
-params_past c h n = ap params_by (sym (go (dec_lt c 41))) ∙ params_law c
-  where
-    go : Dec (c < 41) → get_or params c 0 ≡ 0
-    go (yes p) = let e : c ≡ 40 = omega (arith, h, n, p) in ap (λ z. get_or params z 0) e
-    go (no p) = get_or-eq_default params 0 {n = c} (omega (arith, p))
-
-pub children_past : (c : ℕ) → 41 ≤ c → children_by 0 ≡ (layout c).children
-unfolding children
-children_past c h = ap children_by (sym (get_or-eq_default children 0 h)) ∙ children_law c
+pub children_past : (code : ℕ) → 41 ≤ code → children_of (Fields 0) ≡ (layout code).children
+unfolding children_of
+children_past code h = ap (λ (l : Layout). l.children) (past code h)

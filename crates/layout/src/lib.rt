@@ -4,46 +4,88 @@
 
 ghost use Rattle.std.specs.Prelude.{◌≡◌, true};
 ghost use Rattle.model.specs.Tree.{layout, leaf};
-ghost use Rattle.layout.specs.Kinds.{params_by, children_by};
+ghost use Rattle.layout.specs.Kinds.{params_of, children_of};
 
-// What parameters the type of a code has, by the numbers of `params_by`; none past the table. A match and no table: a table would be laid
-// out anew at each call.
-pub fn params_kind(code: usize) -> u8
-    ensures { params_by result ≡ (layout code).params }
+// Codes that a rule speaks of, in the order of `DataType`.
+pub const NULL: usize = 0;
+
+pub const LIST: usize = 27;
+
+pub const LIST_VIEW: usize = 28;
+
+pub const FIXED_SIZE_LIST: usize = 29;
+
+pub const LARGE_LIST: usize = 30;
+
+pub const LARGE_LIST_VIEW: usize = 31;
+
+pub const STRUCT: usize = 32;
+
+pub const UNION: usize = 33;
+
+pub const DICTIONARY: usize = 34;
+
+pub const MAP: usize = 39;
+
+pub const RUN_END_ENCODED: usize = 40;
+
+pub const LAST_CODE: usize = 40;
+
+// What parameters a type has.
+#[derive(Clone, Copy, PartialEq, Eq)]
+pub enum ParamsKind {
+    None,
+    // A unit, a map, perhaps a zone.
+    Timestamp,
+    Unit,
+    IntervalUnit,
+    // An i32.
+    Int32,
+    // A byte 0 or 1: a union's mode, whether a map is sorted.
+    Flag,
+    // Precision and scale.
+    Decimal,
+}
+
+// What children a type has.
+#[derive(Clone, Copy, PartialEq, Eq)]
+pub enum ChildrenKind {
+    // So many fields.
+    Fields(usize),
+    // A key type and a value type.
+    KeyAndValue,
+    // A count, then as many fields.
+    Counted,
+    // A count, then an id and a field each.
+    CountedWithIds,
+}
+
+// The parameters of the type of a code; none past the table. A match and no table: a table would be laid out anew at each call.
+pub fn params(code: usize) -> ParamsKind
+    ensures { params_of result ≡ (layout code).params }
 {
     match code {
-        0..=12 => 0,
-        13 => 1,
-        14..=15 => 0,
-        16..=18 => 2,
-        19 => 3,
-        20 => 0,
-        21 => 4,
-        22..=28 => 0,
-        29 => 4,
-        30..=32 => 0,
-        33 => 5,
-        34 => 0,
-        35..=38 => 6,
-        39 => 5,
-        _ => 0,
+        13 => ParamsKind::Timestamp,
+        16..=18 => ParamsKind::Unit,
+        19 => ParamsKind::IntervalUnit,
+        21 | FIXED_SIZE_LIST => ParamsKind::Int32,
+        UNION | MAP => ParamsKind::Flag,
+        35..=38 => ParamsKind::Decimal,
+        _ => ParamsKind::None,
     }
 }
 
-// What children the type of a code has, by the numbers of `children_by`; none past the table.
-pub fn children_kind(code: usize) -> u8
-    ensures { children_by result ≡ (layout code).children }
+// The children of the type of a code; none past the table.
+pub fn children(code: usize) -> ChildrenKind
+    ensures { children_of result ≡ (layout code).children }
 {
     match code {
-        0..=26 => 0,
-        27..=31 => 1,
-        32 => 4,
-        33 => 5,
-        34 => 3,
-        35..=38 => 0,
-        39 => 1,
-        40 => 2,
-        _ => 0,
+        LIST..=LARGE_LIST_VIEW | MAP => ChildrenKind::Fields(1),
+        STRUCT => ChildrenKind::Counted,
+        UNION => ChildrenKind::CountedWithIds,
+        DICTIONARY => ChildrenKind::KeyAndValue,
+        RUN_END_ENCODED => ChildrenKind::Fields(2),
+        _ => ChildrenKind::Fields(0),
     }
 }
 
@@ -52,8 +94,8 @@ pub fn children_kind(code: usize) -> u8
 pub fn is_plain(code: usize) -> bool
     ensures { (result ≡ true → layout code ≡ leaf) × (layout code ≡ leaf → result ≡ true) }
 {
-    if params_kind(code) != 0 {
+    if params(code) != ParamsKind::None {
         return false;
     }
-    children_kind(code) == 0
+    children(code) == ChildrenKind::Fields(0)
 }

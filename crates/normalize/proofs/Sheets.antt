@@ -1,12 +1,12 @@
 -- The sheet of the normalised schema, and `normalize` as a call.
 use Prim.Native.Nat.{ℕ, ◌+◌, ◌%◌, ◌/◌, ◌≤◌, ◌<◌}
 use native.Mathlib.Omega.{arith}
-use mathlib.Core.Path.{◌≡◌, refl, sym, ap, ◌∙◌}
+use mathlib.Core.Path.{◌≡◌, refl, sym, ap, subst, ◌∙◌}
 use mathlib.Core.List.{List, [], ◌∷◌, ◌++◌}
 use mathlib.Core.Bool.{Bool, true, false}
 use lib.ListN.{length}
 use lib.Dec.{leb, ltb}
-use borrow.Author.Tests.{leb-true, leb-false, ltb-false, lt-leb}
+use borrow.Author.Tests.{leb-true, leb-false, ltb-false, le-leb, lt-leb}
 use Rattle.model.specs.Numbers.{max_levels, max_sheet_bytes, accepted, separator_not_utf8}
 use Rattle.model.specs.Bytes.{Bytes, choose, u16}
 use Rattle.model.specs.Text.{utf8}
@@ -16,7 +16,7 @@ use Rattle.model.specs.WellFormed.{Fits}
 use Rattle.model.specs.Read.{judged, unless}
 use Rattle.model.specs.Schema.{join, normalized_columns, normalize}
 use Rattle.model.specs.Call.{bytes, refused, and_then, sheet_answer, acceptance, settled}
-use Rattle.model.proofs.Gives.{choose_false}
+use Rattle.model.proofs.Gives.{choose_true, choose_false}
 use Rattle.model.proofs.WellFormed.{columns_laid_out}
 use Rattle.text.specs.declared.Text.{Text}
 use Rattle.text.specs.declared.Text.TheVariants.{Valid, Broken}
@@ -33,14 +33,15 @@ use Rattle.normalize.specs.declared.Reach.{Reach}
 use Rattle.normalize.specs.Expands.{prefix, Measures, Adds, ExpandsFields, normalized, PutsColumns, PutsNormalized, sheet_length}
 
 -- all columns of a sheet that was read: no field is above them
-pub columns_put : {s : Bytes} (separator : Bytes) (maxLevel : ℕ) (path : List ℕ) {n first : ℕ} {w : Bytes} {p : ℕ} {w' : Bytes} {to : Reach} → length path ≡ max_levels
+pub columns_put : {s : Bytes} (separator : Bytes) (maxLevel : ℕ) {path : List ℕ} {n first : ℕ} {w : Bytes} {p : ℕ} {w' : Bytes} {to : Reach} → path ≡ []
     → ((x : Schema) → Stands s 0 (sheet_bytes x) → ColumnsAt s 0 x n first)
-    → ExpandsFields s separator maxLevel path 0 n w (record { place = first; written = p; count = 0 }) w' to → PutsColumns s separator maxLevel w p w' to
+    → ExpandsFields s separator maxLevel path n w (record { place = first; written = p; count = 0 }) w' to → PutsColumns s separator maxLevel w p w' to
 unfolding normalized_columns prefix join
-columns_put {s} separator maxLevel path size f g x fits e =
+columns_put {s} separator maxLevel {path} {n} {first} {w} {p} {w'} {to} none f g x fits e =
     let a = f x (whole_stands s (sheet_bytes x) e) in
-    (g max_levels (λ t. t) [] x.columns (omega arith) (λ t. refl)
-    (record { size = size; count = refl; few = omega arith; stand = λ i h. absurd (omega (arith, h)) })
+    let fields = subst (λ q. ExpandsFields s separator maxLevel q n w (record { place = first; written = p; count = 0 }) w' to) none g in
+    (fields max_levels (λ t. t) [] x.columns (omega arith) (λ t. refl)
+    (record { count = refl; stand = λ i h. absurd (omega (arith, h)) })
     (sym a.count) (columns_laid_out x fits.well_formed)).adds a.stands
 
 -- A sheet of such columns and no metadata: its map, and behind it their count and the columns, if there are any
@@ -65,7 +66,11 @@ module _ {w : Bytes} {n : ℕ} where
 
 -- Its length and the number of its columns, from the columns as they are put from 3 on
 
-long_sheet : (q : ℕ) → 3 < q → sheet_length q ≡ q
+pub short_sheet : (q : ℕ) → q ≤ 3 → sheet_length q ≡ 1
+unfolding sheet_length
+short_sheet q h = choose_true _ _ _ (le-leb q 3 h)
+
+pub long_sheet : (q : ℕ) → 3 < q → sheet_length q ≡ q
 unfolding sheet_length
 long_sheet q h = choose_false _ _ _ (lt-leb q 3 h)
 

@@ -21,6 +21,7 @@ ghost use Rattle.project.specs.Table.{Table};
 
 use buffer::Outcome;
 use sheet::{Cursor, Step};
+use walk::Elements;
 
 // What the check of an entry, or of a list of entries, answers: a refusal is its number and its place.
 #[derive(Clone, Copy)]
@@ -41,22 +42,21 @@ fn put_place(work: &mut [u8], i: usize, place: usize)
     requires { 2 * i + 2 ≤ length work.old }
     ensures { work.new ≡ set (set work.old (2 * i) (place % 256)) (2 * i + 1) (place / 256 % 256) }
 {
-    work[2 * i] = (place % 256) as u8;
-    work[2 * i + 1] = (place / 256 % 256) as u8;
+    let [low, high, ..] = place.to_le_bytes();
+    work[2 * i] = low;
+    work[2 * i + 1] = high;
 }
 
 // The places of so many columns that stand one behind the other, and the place behind the last.
-fn write_places(s: &[u8], at: usize, count: usize, work: &mut [u8])
-    requires { 2 * count + 2 ≤ length work.old }
-    ensures { (fs : List (Field max_levels)) → length fs ≡ count → Every (λ f. LaidOut max_levels f.data_type) fs → Stands s.now at (each column_bytes fs) → length s.now < 65536 → Table s.now work.new fs }
+fn write_places(s: &[u8], columns: Elements, work: &mut [u8])
+    requires { 2 * columns.count + 2 ≤ length work.old }
+    ensures { (fs : List (Field max_levels)) → length fs ≡ columns.count → Every (λ f. LaidOut max_levels f.data_type) fs → Stands s.now columns.at (each column_bytes fs) → length s.now < 65536 → Table s.now work.new fs }
 {
-    put_place(work, 0, at);
-    let mut place = at;
-    let mut i = 0;
-    while i < count {
+    put_place(work, 0, columns.at);
+    let mut place = columns.at;
+    for i in 0..columns.count {
         place = walk::skip_field(s, place, Cursor::LEVELS);
-        i += 1;
-        put_place(work, i, place);
+        put_place(work, i + 1, place);
     }
 }
 
@@ -85,14 +85,11 @@ fn check_list(list: &[u8], strict: bool, seen: &mut [u8]) -> Checked
         return Checked::Refused(ODD_LIST, 0);
     }
     buffer::clear(seen);
-    let entries = list.len() / 2;
-    let mut e = 0;
-    while e < entries {
+    for e in 0..list.len() / 2 {
         let checked = check_entry(seen, walk::two(list, 2 * e), strict, e);
         let Checked::Valid = checked else {
             return checked;
         };
-        e += 1;
     }
     Checked::Valid
 }
@@ -117,27 +114,27 @@ fn check_columns(s: &[u8], list: &[u8], strict: bool, work: &mut [u8]) -> Checke
     if work.len() / 4 <= count {
         return Checked::Valid;
     }
-    write_places(s, columns.at, count, work);
+    write_places(s, columns, work);
     check_behind(list, strict, count, work)
 }
 
-// A map, and the metadata under it as it stands in the sheet.
-fn put_front(s: &[u8], map: u8, dst: &mut [u8]) -> usize
-    ensures { (x : Schema) (b : Bool) → s.now ≡ sheet_bytes x → map ≡ flag 1 (stands x.metadata) + flag 2 b → Puts (map ∷ part (with_count pair_bytes) x.metadata) dst.old 0 dst.new result }
+// The map, of which the bit for the metadata is as it was and that for the columns is given, and the metadata as it stands in the sheet.
+fn put_front(s: &[u8], columns: bool, dst: &mut [u8]) -> usize
+    ensures { (x : Schema) → s.now ≡ sheet_bytes x → Puts ((flag 1 (stands x.metadata) + flag 2 columns) ∷ part (with_count pair_bytes) x.metadata) dst.old 0 dst.new result }
 {
-    let end = walk::skip_metadata_if(s, 1, map % 2 == 1);
-    let metadata = buffer::put_one(dst, 0, map);
-    walk::put_part(dst, metadata, s, 1, end)
+    let metadata = walk::bit(walk::byte(s, 0), 0);
+    let end = walk::skip_if(s, 1, metadata, walk::skip_metadata);
+    let map = u8::from(metadata) + 2 * u8::from(columns);
+    let place = buffer::put_one(dst, 0, map);
+    walk::put_part(dst, place, s, 1, end)
 }
 
 // The column of each entry of a list that was accepted. Beyond the longest answer no more is looked at.
 fn put_columns(s: &[u8], table: &[u8], list: &[u8], dst: &mut [u8], pos: usize) -> usize
     ensures { (x y : Schema) (strict : Bool) (n : ℕ) → Table s.now table.now x.columns → project strict x list.now ≡ got y n → Puts (each column_bytes y.columns) dst.old pos dst.new result }
 {
-    let entries = list.len() / 2;
     let mut written = pos;
-    let mut e = 0;
-    while e < entries {
+    for e in 0..list.len() / 2 {
         if buffer::MAX_ANSWER_BYTES < written {
             return written;
         }
@@ -145,21 +142,19 @@ fn put_columns(s: &[u8], table: &[u8], list: &[u8], dst: &mut [u8], pos: usize) 
         let from = walk::two(table, 2 * i);
         let to = walk::two(table, 2 * (i + 1));
         written = walk::put_part(dst, written, s, from, to);
-        e += 1;
     }
     written
 }
 
-// The sheet of the projection by a list that was accepted: of the map the bit for the metadata as it was, and that for the columns where
-// there are any.
+// The sheet of the projection by a list that was accepted.
 fn put_projected(s: &[u8], table: &[u8], list: &[u8], dst: &mut [u8]) -> usize
     ensures { (x y : Schema) (strict : Bool) (n : ℕ) → s.now ≡ sheet_bytes x → Table s.now table.now x.columns → project strict x list.now ≡ got y n → Puts (sheet_bytes y) dst.old 0 dst.new result }
 {
-    let map = (walk::byte(s, 0) % 2) as u8;
-    if list.len() == 0 {
-        return put_front(s, map, dst);
+    let none = list.is_empty();
+    let count = put_front(s, !none, dst);
+    if none {
+        return count;
     }
-    let count = put_front(s, map + 2, dst);
     let first = buffer::put_two(dst, count, list.len() / 2);
     put_columns(s, table, list, dst, first)
 }
@@ -168,8 +163,7 @@ fn put_projected(s: &[u8], table: &[u8], list: &[u8], dst: &mut [u8]) -> usize
 fn answer_projected(s: &[u8], list: &[u8], work: &mut [u8], answer: &mut [u8]) -> Outcome
     ensures { (x y : Schema) (strict : Bool) (n : ℕ) → s.now ≡ sheet_bytes x → Table s.now work.old x.columns → project strict x list.now ≡ got y n → leaves result answer.new work.new ≡ acceptance (sheet_bytes y) (zeros (length work.old)) answer.old }
 {
-    let mut none = [0u8; 0];
-    let written = put_projected(s, work, list, &mut none);
+    let written = put_projected(s, work, list, &mut []);
     let number = buffer::length_number(written, answer.len());
     if number != Outcome::ACCEPTED {
         return buffer::refuse(work, number, 0);

@@ -26,9 +26,9 @@ use Rattle.buffer.specs.Leaves.{leaves}
 use Rattle.buffer.proofs.Pasted.{length_pasted, pasted_front, take_pasted}
 use Rattle.buffer.proofs.Room.{room_enough}
 use Rattle.buffer.proofs.Ends.{call_answered}
-use Rattle.schema.specs.Flattens.{Puts, Flattens, Listed}
+use Rattle.schema.specs.Flattens.{Puts, Flattens, own, FlattensRow, Listed}
 use Rattle.sheet.proofs.Reading.{Whole, sheet_refused}
-use Rattle.schema.proofs.Walked.{Lists, own}
+use Rattle.std.proofs.Common.{add-zero}
 
 -- the columns stand where `flattened_fields` counts from
 columns_places : {s : Bytes} (x : Schema) {n first : ℕ} → ColumnsAt s 0 x n first → each_at column_bytes (own max_levels) first x.columns ≡ flattened_fields x
@@ -63,12 +63,12 @@ counted_written ns {w = w} {w₁} {w₂} {r} {t} {k} h st small room f e g =
     )
 
 pub fields_listed : {s w w₁ w₂ : Bytes} {n first r t k q : ℕ} → ((x : Schema) → Stands s 0 (sheet_bytes x) → ColumnsAt s 0 x n first)
-    → Lists s first n 32 w 2 w₁ r t → k ≡ (t - 2) / 2 → Puts k w₁ 0 w₂ q → Listed s w w₂ t
+    → FlattensRow s first n 0 32 w 2 w₁ r t → k ≡ (t - 2) / 2 → Puts k w₁ 0 w₂ q → Listed s w w₂ t
 fields_listed {s} {w} {w₁} {w₂} {n} {first} {r} {t} f g e h = record {
   listed = λ x good i j room.
       let a = f x (whole_stands s (sheet_bytes x) i) in
       let p = subst (λ ns. Flattens s first (each column_bytes x.columns) ns w 2 w₁ r t) (columns_places x a)
-      (g max_levels x.columns (omega arith) (sym a.count) (columns_laid_out x good)) in
+      (g max_levels (λ h. []) (own max_levels) x.columns (λ h. refl) (λ n k. ap (λ m. own max_levels m k) (sym (add-zero n))) (omega arith) (sym a.count) (columns_laid_out x good)) in
       counted_written (flattened_fields x) j a.stands (omega (arith, flattened_half x, ap length i)) room p e h;
 }
 

@@ -1,5 +1,5 @@
 -- The name of a field that stands at a place, and the first of the columns that has it.
-use Prim.Native.Nat.{ℕ, ◌+◌, ◌/◌, ◌%◌, ◌≤◌, ◌<◌}
+use Prim.Native.Nat.{ℕ, ◌+◌, ◌≤◌, ◌<◌}
 use native.Mathlib.Omega.{arith}
 use mathlib.Core.Path.{◌≡◌, refl, sym, ap, subst, ◌∙◌}
 use mathlib.Core.List.{List, [], ◌∷◌, ◌++◌}
@@ -9,7 +9,7 @@ use lib.Dec.{eqb}
 use lib.Seq.{take-length, take-append_seam}
 use borrow.Author.Tests.{ne_eqb}
 use Rattle.model.specs.Numbers.{max_levels, no_such_column}
-use Rattle.model.specs.Bytes.{Bytes, Every, Found, found, missing, position, same, same_bytes, u16}
+use Rattle.model.specs.Bytes.{Bytes, Every, bit, Found, found, missing, position, same, same_bytes, u16}
 use Rattle.model.specs.Tree.{Head, Field, Schema}
 use Rattle.model.specs.Sheet.{each, text_bytes, head_bytes, column_bytes, sheet_bytes}
 use Rattle.model.specs.WellFormed.{LaidOut, Fits}
@@ -25,11 +25,11 @@ use Rattle.buffer.proofs.Ends.{leaves_refusal}
 use Rattle.walk.specs.Stands.{Stands, SkipsField, ColumnsAt}
 use Rattle.walk.proofs.Schemas.{sheet_columns}
 use Rattle.walk.proofs.Descents.{head_stands, name_stands, no_name, body_stands}
-use Rattle.walk.proofs.Passed.{Passed, Here, passed_begin, passed_again, passed_here, passed_done}
-use Rattle.schema.specs.declared.Match.{Match}
+use Rattle.walk.proofs.Passed.{Passed, Here, passed_again, passed_here, passed_done}
+use Rattle.std.specs.Prelude.{Option, Some, None}
 use Rattle.schema.specs.Answers.{match_of, Narrow}
 use Rattle.walk.proofs.Standing.{whole_stands, first_stands, two_stands, num_u16}
-use Rattle.walk.proofs.Parts.{Ahead, two_at}
+use Rattle.walk.proofs.Parts.{Ahead, two_at, bit_true, bit_false}
 
 -- The text that stands at a place
 
@@ -50,8 +50,8 @@ module _ {s : Bytes} {place body n : ℕ} (a : Ahead s place 2 body) (e : n ≡ 
   text_is = ap (λ k. take k (drop body s)) size_is ∙ ap (take (length t)) body_is.1.bytes ∙ take-append_seam t _
 
   -- so it is compared
-  pub text_compared : {r : Bool} (name : Bytes) (k : ℕ) → r ≡ same_bytes (take k (drop body s)) name → k ≡ n → r ≡ same_bytes t name
-  text_compared name k e h = e ∙ ap (λ b. same_bytes b name) (ap (λ m. take m (drop body s)) h ∙ text_is)
+  pub text_compared : {r : Bool} {b : Bytes} (name : Bytes) {k : ℕ} → r ≡ same_bytes b name → b ≡ take k (drop body s) → k ≡ n → r ≡ same_bytes t name
+  text_compared name e i h = e ∙ ap (λ b. same_bytes b name) (i ∙ ap (λ m. take m (drop body s)) h ∙ text_is)
 
 -- The name of the field that stands at a place
 
@@ -65,12 +65,12 @@ abbrev Names : (s : Bytes) (place : ℕ) (name : Bytes) → Bool → Type 0
 Names s place name r = (h : Head) → Stands s place (head_bytes h) → r ≡ same_bytes h.name name
 
 module _ {s : Bytes} {place map : ℕ} (e : map ≡ get_or s place 0) where
-  pub named : {body : ℕ} {r : Bool} (name : Bytes) → map / 4 % 2 ≡ 1 → Ahead s place 1 body
-      → ((t : Bytes) → Stands s body (text_bytes t) → r ≡ same_bytes t name) → Names s place name r
-  named name b a f h st = f h.name (name_stands e b a h st)
+  module _ {n : Bool} (i : n ≡ bit 2 map) where
+    pub named : {body : ℕ} {r : Bool} (name : Bytes) → n ≡ true → Ahead s place 1 body → ((t : Bytes) → Stands s body (text_bytes t) → r ≡ same_bytes t name) → Names s place name r
+    named name b a f h st = f h.name (name_stands e (bit_true 2 _ (sym i ∙ b)) a h st)
 
-  pub unnamed : {r : Bool} (name : Bytes) → (map / 4 % 2 ≡ 1 → ⊥) → r ≡ eqb (length name) 0 → Names s place name r
-  unnamed name b k h st = k ∙ none_same name ∙ ap (λ m. same_bytes m name) (sym (no_name e b h st))
+    pub unnamed : {r : Bool} (name : Bytes) → n ≡ false → r ≡ eqb (length name) 0 → Names s place name r
+    unnamed name b k h st = k ∙ none_same name ∙ ap (λ m. same_bytes m name) (sym (no_name e (bit_false 2 _ (sym i ∙ b)) h st))
 
 -- The first of the columns that has a name
 
@@ -93,14 +93,11 @@ seam d x [] rest = refl
 seam d x (y ∷ done) rest = seam d x done rest
 
 -- what `find_name` ensures
-abbrev Finds : (s name : Bytes) (first count : ℕ) → Match → Type 0
+abbrev Finds : (s name : Bytes) (first count : ℕ) → Option ℕ → Type 0
 Finds s name first count r =
     (fs : List (Field max_levels)) → length fs ≡ count → Every Good fs → Stands s first (each column_bytes fs) → r ≡ match_of (position (has_name name) fs)
 
 module _ (s name : Bytes) where
-  pub searched_begin : (first count : ℕ) → Searched s name first count first 0
-  searched_begin first count = record { passed = passed_begin Good column_bytes s first count tt; bound = omega arith }
-
   module _ {first count place i : ℕ} (k : Searched s name first count place i) where
     module _ (h : i < count) {b : Bool} (v : Names s place name b) where
       verdict : (f : Field max_levels) → Stands s place (column_bytes f) → b ≡ has_name name f
@@ -113,7 +110,7 @@ module _ (s name : Bytes) where
         bound = omega (arith, h);
       }
 
-      pub searched_found : {r : Match} → b ≡ true → r ≡ Match.First i → Finds s name first count r
+      pub searched_found : {r : Option ℕ} → b ≡ true → r ≡ Some i → Finds s name first count r
       searched_found {r} e q fs n w st = go (passed_here Good column_bytes s k.passed h fs n w st)
         where
           go : Here Good column_bytes s (Others name) place i fs → r ≡ match_of (position (has_name name) fs)
@@ -126,13 +123,13 @@ module _ (s name : Bytes) where
               (ap (has_name name) (seam u.this u.this u.done u.rest) ∙ sym (verdict u.this (first_stands (column_bytes u.this) (each column_bytes u.rest) u.stands)) ∙ e) in
               q ∙ sym (ap match_of (ap (position (has_name name)) u.parts ∙ f ∙ ap found u.passed))
 
-    pub searched_done : {r : Match} → count ≤ i → r ≡ Match.Missing → Finds s name first count r
+    pub searched_done : {r : Option ℕ} → count ≤ i → r ≡ None → Finds s name first count r
     searched_done h q fs n w st =
         let p = passed_done Good column_bytes s k.passed h fs n w st in
         q ∙ sym (ap match_of (position_none (has_name name) fs (length fs) (subst (Others name) (sym (take-length fs)) p) (omega arith)))
 
 -- among the columns of a sheet that was read
-pub column_found : {s : Bytes} (name : Bytes) {n first : ℕ} {r : Match} → ((x : Schema) → Stands s 0 (sheet_bytes x) → ColumnsAt s 0 x n first) → Finds s name first n r
+pub column_found : {s : Bytes} (name : Bytes) {n first : ℕ} {r : Option ℕ} → ((x : Schema) → Stands s 0 (sheet_bytes x) → ColumnsAt s 0 x n first) → Finds s name first n r
     → (x : Schema) → Fits x → s ≡ sheet_bytes x → r ≡ match_of (position (has_name name) x.columns)
 column_found {s} name find f x fits e =
     let c = find x (whole_stands s (sheet_bytes x) e) in
@@ -148,14 +145,14 @@ narrow_found x fits p = go (position p x.columns) refl
     go (found i) h = omega (arith, (position_found p x.columns i h).inside, sheet_columns x, fits.size)
     go missing h = tt
 
-module _ {m : Match} (work answer : Bytes) where
-  pub index_written : {i : ℕ} {x : Exit} → m ≡ Match.First i → (i < 65536 → x ≡ acceptance (u16 i) work answer)
+module _ {m : Option ℕ} (work answer : Bytes) where
+  pub index_written : {i : ℕ} {x : Exit} → m ≡ Some i → (i < 65536 → x ≡ acceptance (u16 i) work answer)
       → (f : Found) → m ≡ match_of f → Narrow f → x ≡ settled (and_then (if_found f) bytes) work answer
   unfolding settled and_then if_found
   index_written {i} {x} h k (found j) e w = let q : i ≡ j = cc in k (omega (arith, q, w)) ∙ ap (λ n. acceptance (u16 n) work answer) q
   index_written {i} {x} h k missing e w = absurd (let z : ◌≡◌ {A = ℕ} 0 1 = cc in omega arith)
 
-  pub index_missing : {r : Outcome} {after : Bytes} → m ≡ Match.Missing → r ≡ refused_with no_such_column 0 → after ≡ work
+  pub index_missing : {r : Outcome} {after : Bytes} → m ≡ None → r ≡ refused_with no_such_column 0 → after ≡ work
       → (f : Found) → m ≡ match_of f → Narrow f → leaves r answer after ≡ settled (and_then (if_found f) bytes) work answer
   unfolding settled and_then if_found
   index_missing h k z (found j) e w = absurd (let z : ◌≡◌ {A = ℕ} 0 1 = cc in omega arith)

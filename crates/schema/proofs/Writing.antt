@@ -76,27 +76,27 @@ module _ {A : Type 0} (W : A → Type 0) (f : A → Bytes) (one : ℕ → A → 
   abbrev Rest : ℕ → ℕ → Bytes → ℕ → Bytes → ℕ → ℕ → Type 0
   Rest place left w p w' r t = (xs : List A) → length xs ≡ left → Every W xs → Flattens s place (each f xs) (each_at f one place xs) w p w' r t
 
-  -- of so many from `first` on, so many are left at the place
-  pub record Turns (first count : ℕ) (w₀ : Bytes) (p₀ place left : ℕ) (w : Bytes) (p : ℕ) : Type 0 where
-    rest : (w' : Bytes) (r t : ℕ) → Rest place left w p w' r t → Rest first count w₀ p₀ w' r t
+  -- of so many from `first` on, i have been passed; the others begin at the place
+  pub record Turns (first count : ℕ) (w₀ : Bytes) (p₀ place i : ℕ) (w : Bytes) (p : ℕ) : Type 0 where
+    rest : (w' : Bytes) (r t : ℕ) → Rest place (count - i) w p w' r t → Rest first count w₀ p₀ w' r t
 
   module _ {first count : ℕ} {w₀ : Bytes} {p₀ : ℕ} where
-    pub turns_begin : Turns first count w₀ p₀ first count w₀ p₀
-    turns_begin = record { rest = λ w' r t k. k }
+    pub turns_begin : Turns first count w₀ p₀ first 0 w₀ p₀
+    turns_begin = record { rest = λ w' r t k xs e z. k xs (omega (arith, e)) z }
 
-    pub turns_again : {place left : ℕ} {w : Bytes} {p : ℕ} {w₁ : Bytes} {m q : ℕ} → Turns first count w₀ p₀ place left w p → 0 < left
-        → ((x : A) → W x → Flattens s place (f x) (one place x) w p w₁ m q) → Turns first count w₀ p₀ m (left - 1) w₁ q
+    pub turns_again : {place i : ℕ} {w : Bytes} {p : ℕ} {w₁ : Bytes} {m q : ℕ} → Turns first count w₀ p₀ place i w p → i < count
+        → ((x : A) → W x → Flattens s place (f x) (one place x) w p w₁ m q) → Turns first count w₀ p₀ m (i + 1) w₁ q
     unfolding each_at
-    turns_again {place} {left} {w} {p} {w₁} {m} {q} i h g = record { rest = λ w' r t k. i.rest w' r t (go w' r t k) }
+    turns_again {place} {i} {w} {p} {w₁} {m} {q} turns h g = record { rest = λ w' r t k. turns.rest w' r t (go w' r t k) }
       where
-        go : (w' : Bytes) (r t : ℕ) → Rest m (left - 1) w₁ q w' r t → Rest place left w p w' r t
+        go : (w' : Bytes) (r t : ℕ) → Rest m (count - (i + 1)) w₁ q w' r t → Rest place (count - i) w p w' r t
         go w' r t k [] e z = absurd (omega (arith, e, h))
         go w' r t k (x ∷ xs) e z = flat_join (one place x) (λ m. each_at f one m xs) (g x z.0) (k xs (omega (arith, e)) z.1)
 
-    pub turns_done : {place left : ℕ} {w : Bytes} {p : ℕ} → Turns first count w₀ p₀ place left w p → left ≤ 0 → Rest first count w₀ p₀ w place p
+    pub turns_done : {place i : ℕ} {w : Bytes} {p : ℕ} → Turns first count w₀ p₀ place i w p → count ≤ i → Rest first count w₀ p₀ w place p
     unfolding each_at
-    turns_done {place} {left} {w} {p} i h = i.rest w place p go
+    turns_done {place} {i} {w} {p} turns h = turns.rest w place p go
       where
-        go : Rest place left w p w place p
+        go : Rest place (count - i) w p w place p
         go [] e z = flat_none
         go (x ∷ xs) e z = absurd (omega (arith, e, h))

@@ -1,11 +1,10 @@
--- What the enum of this crate says: the definition's position, or none.
-use Rattle.std.specs.Prelude.{◌<◌}
+-- The definition's position, or none, as the code has it.
+use Rattle.std.specs.Prelude.{ℕ, ◌<◌, Option, Some, None}
 use Rattle.model.specs.Bytes.{Found, found, missing}
-use Rattle.schema.specs.declared.Match.{Match}
 
-abbrev pub match_of : Found → Match
-match_of (found i) = Match.First i
-match_of missing = Match.Missing
+abbrev pub match_of : Found → Option ℕ
+match_of (found i) = Some i
+match_of missing = None
 
 -- a position that a u16 holds
 abbrev pub Narrow : Found → Type 0

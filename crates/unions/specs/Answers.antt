@@ -1,12 +1,12 @@
--- What the enums of `unions` stand for: for each case document 01's number and values.
+-- What the answers of `unions` stand for: for each case document 01's number and values.
+use Rattle.std.specs.Prelude.{Option, Some, None}
 use Rattle.model.specs.Read.{Step, got, bad}
-use Rattle.model.specs.Bytes as model
+use Rattle.model.specs.Bytes.{Found, found, missing}
 use Rattle.buffer.specs.Leaves.{refused_with, accepted_with}
 use Rattle.buffer.specs.declared.Outcome.{Outcome}
 use Rattle.unions.specs.declared.Checked.{Checked}
 use Rattle.unions.specs.declared.Checked.TheVariants.{Valid, Refused}
-use Rattle.unions.specs.declared.Found.{Found}
-use Rattle.unions.specs.declared.Found.TheVariants.{At, Missing}
+use Rattle.unions.specs.declared.Position.{Position}
 
 -- a step: 0, or the number of its refusal at its place
 abbrev pub checked_of : {A : Type 0} → Step A → Checked
@@ -19,6 +19,6 @@ up_of Valid = accepted_with 0
 up_of (Refused n p) = refused_with n p.0
 
 -- a position in a list, or none
-abbrev pub found_of : model.Found → Found
-found_of (model.found i) = At (record { 0 = i })
-found_of model.missing = Missing
+abbrev pub found_of : Found → Option Position
+found_of (found i) = Some (record { 0 = i })
+found_of missing = None

@@ -4,7 +4,7 @@
 // The look-up of an equal field compares fields: datatype has it.
 #![tactic(auto)]
 
-ghost use Rattle.std.specs.Prelude.{◌≡◌, [], suc, ◌+◌, ◌≤◌, eqb, get_or, set};
+ghost use Rattle.std.specs.Prelude.{◌≡◌, [], suc, ◌+◌, ◌≤◌, eqb, get_or, set, true, false};
 ghost use Rattle.model.specs.Numbers.{max_type_id};
 ghost use Rattle.model.specs.Bytes.{position};
 ghost use Rattle.model.specs.Read.{judged};
@@ -31,13 +31,6 @@ pub enum Checked {
     Refused(u8, Position),
 }
 
-// What the look-up answers.
-#[derive(Clone, Copy)]
-pub enum Found {
-    At(Position),
-    Missing,
-}
-
 // The numbers of the refusals.
 const ID_TOO_LARGE: u8 = 6;
 
@@ -57,26 +50,24 @@ impl TypeId {
     pub const COUNT: usize = 128;
 
     // Whether the flag of this id is set.
-    pub fn is_seen(self, seen: &[u8; TypeId::COUNT]) -> bool
+    pub fn is_seen(self, seen: &[bool; TypeId::COUNT]) -> bool
         requires { self.0 ≤ max_type_id }
-        ensures { result ≡ eqb (get_or seen.now self.0 0) 1 }
+        ensures { result ≡ get_or seen.now self.0 false }
     {
-        let i = self.0 as usize;
-        seen[i] == 1
+        seen[usize::from(self.0)]
     }
 
     // Sets the flag of this id.
-    pub fn mark(self, seen: &mut [u8; TypeId::COUNT])
+    pub fn mark(self, seen: &mut [bool; TypeId::COUNT])
         requires { self.0 ≤ max_type_id }
-        ensures { seen.new ≡ set seen.old self.0 1 }
+        ensures { seen.new ≡ set seen.old self.0 true }
     {
-        let i = self.0 as usize;
-        seen[i] = 1;
+        seen[usize::from(self.0)] = true;
     }
 }
 
 // One id of the list, after those whose flag is set: 6, then 7, or its own flag is set.
-fn check_id(seen: &mut [u8; TypeId::COUNT], id: u8, at: Position) -> Checked
+fn check_id(seen: &mut [bool; TypeId::COUNT], id: u8, at: Position) -> Checked
     ensures { (result ≡ checked_of (judged (id_fits_by seen.old id) at.0 id (at.0 + 1))) × (seen.new ≡ marked result seen.old id) }
 {
     if TypeId::LAST < id {
@@ -94,19 +85,17 @@ fn check_id(seen: &mut [u8; TypeId::COUNT], id: u8, at: Position) -> Checked
 fn check_ids(ids: &[u8], fields: usize) -> Checked
     ensures { result ≡ checked_of (try_new ids.now fields [] 0) }
 {
-    let mut seen = [0u8; TypeId::COUNT];
-    let mut i = 0;
-    while i < ids.len() {
+    let mut seen = [false; TypeId::COUNT];
+    for (i, id) in ids.iter().enumerate() {
         if fields <= i {
             return Checked::Refused(MORE_IDS_THAN_FIELDS, Position(0));
         }
-        let checked = check_id(&mut seen, ids[i], Position(i));
+        let checked = check_id(&mut seen, *id, Position(i));
         let Checked::Valid = checked else {
             return checked;
         };
-        i += 1;
     }
-    if i < fields {
+    if ids.len() < fields {
         return Checked::Refused(MORE_FIELDS_THAN_IDS, Position(0));
     }
     Checked::Valid
@@ -126,7 +115,7 @@ fn up(c: Checked) -> Outcome
 pub fn try_new(ids: &[u8], count: u16, answer: &mut [u8]) -> Outcome
     ensures { leaves result answer.new [] ≡ try_new_call ids.now count answer.old }
 {
-    let checked = check_ids(ids, count as usize);
+    let checked = check_ids(ids, usize::from(count));
     let Checked::Valid = checked else {
         return up(checked);
     };
@@ -138,12 +127,10 @@ fn all_ids() -> [u8; TypeId::COUNT]
     ensures { result ≡ ids_from 0 (suc max_type_id) }
 {
     let mut ids = [0u8; TypeId::COUNT];
-    let mut id: u8 = 0;
-    let mut i = 0;
-    while i < TypeId::COUNT {
-        ids[i] = id;
-        id += 1;
-        i += 1;
+    let mut next: u8 = 0;
+    for id in ids.iter_mut() {
+        *id = next;
+        next += 1;
     }
     ids
 }
@@ -152,7 +139,7 @@ fn all_ids() -> [u8; TypeId::COUNT]
 pub fn try_from_fields(count: u16, answer: &mut [u8]) -> Outcome
     ensures { leaves result answer.new [] ≡ try_from_fields_call count answer.old }
 {
-    let fields = count as usize;
+    let fields = usize::from(count);
     if TypeId::COUNT < fields {
         return Outcome::refused(TOO_MANY_FIELDS, 0);
     }
@@ -162,15 +149,8 @@ pub fn try_from_fields(count: u16, answer: &mut [u8]) -> Outcome
 
 // `UnionFields::find_by_type_id`, over the ids of a union's children: the position of the first that is equal. "Lookup by id and by
 // equal field stay inside", so no call has it.
-fn find_type_id(ids: &[u8], id: TypeId) -> Found
+fn find_type_id(ids: &[u8], id: TypeId) -> Option<Position>
     ensures { result ≡ found_of (position (λ i. eqb i id.0) ids.now) }
 {
-    let mut i = 0;
-    while i < ids.len() {
-        if ids[i] == id.0 {
-            return Found::At(Position(i));
-        }
-        i += 1;
-    }
-    Found::Missing
+    ids.iter().position(|i| *i == id.0).map(Position)
 }

@@ -1,11 +1,13 @@
 -- Strings, lists, heads and parameters: the place behind each, from the places that the code's steps give.
-use Prim.Native.Nat.{ℕ, zero, suc, ◌+◌, ◌*◌, ◌/◌, ◌%◌, ◌≤◌}
+use Prim.Native.Nat.{ℕ, zero, suc, ◌+◌, ◌*◌, ◌/◌, ◌%◌, ◌^◌, ◌≤◌}
 use native.Mathlib.Omega.{arith}
 use mathlib.Core.Path.{◌≡◌, refl, sym, ap, subst, ◌∙◌}
+use Rattle.std.proofs.Math.Path.{subst₂}
 use mathlib.Core.List.{List, [], ◌∷◌, ◌++◌}
-use mathlib.Core.Bool.{Bool, true, false, false≢true}
+use mathlib.Core.Bool.{Bool, true, false}
 use lib.ListN.{length, get_or, length-append}
 use lib.Dec.{eqb}
+use borrow.Author.Tests.{eqb-true, eqb-false}
 use Rattle.model.specs.Bytes.{Bytes, Metadata, num, u16, u64, bit, flag}
 use Rattle.model.specs.Tree.{Head, layout}
 use Rattle.model.specs.Tree.Params.{timestamp}
@@ -14,11 +16,22 @@ use Rattle.model.proofs.Numerals.{length_little_endian}
 use Rattle.model.proofs.MapBits.{flag_one, is_one, name_set, metadata_set, dict_id_set}
 use Rattle.model.specs.WellFormed.{WellFormedItems, WellFormedZone, WellFormedParams}
 use Rattle.walk.specs.Stands.{Stands, Skips}
-use Rattle.layout.specs.Kinds.{params_by}
+use Rattle.layout.specs.declared.ParamsKind.{ParamsKind}
+use Rattle.layout.specs.declared.ParamsKind.TheVariants.{None, Timestamp, Unit, IntervalUnit, Int32, Flag, Decimal}
+use Rattle.layout.specs.Kinds.{params_of}
 use Rattle.walk.specs.Widths.{widths, width}
 use Rattle.walk.proofs.Standing.{first_stands, byte_stands, two_stands, skip_none, skip_ahead, skip_when, skip_join, stands_behind, num_u16}
 
-length_u64 : (n : ℕ) → length (u64 n) ≡ 8
+-- a bit as a number
+pub bit_true : (k m : ℕ) → bit k m ≡ true → m / 2 ^ k % 2 ≡ 1
+unfolding bit
+bit_true k m e = eqb-true (m / 2 ^ k % 2) 1 e
+
+pub bit_false : (k m : ℕ) → bit k m ≡ false → m / 2 ^ k % 2 ≡ 1 → ⊥
+unfolding bit
+bit_false k m e = eqb-false (m / 2 ^ k % 2) 1 e
+
+pub length_u64 : (n : ℕ) → length (u64 n) ≡ 8
 unfolding u64
 length_u64 n = length_little_endian 8 n
 
@@ -51,22 +64,15 @@ module _ {s : Bytes} {place : ℕ} where
       skip_join (skip_ahead (u16 (length xs)) refl a.1) (g (sym (num_u16 (length xs)) ∙ sym (two_stands (u16 (length xs)) (each f xs) refl st) ∙ sym e))
 
   -- a part under a bit
-  pub part_set : {A : Type 0} (f : List A → Bytes) (set : Bool) (r : ℕ) → set ≡ true → ((xs : List A) → Skips s place (f xs) r) → (xs : List A) → stands xs ≡ set → Skips s place (part f xs) r
-  part_set f set r e g [] h = absurd (false≢true (h ∙ e))
-  part_set f set r e g (x ∷ xs) h = g (x ∷ xs)
-
-  pub part_unset : {A : Type 0} (f : List A → Bytes) (set : Bool) → set ≡ false → (xs : List A) → stands xs ≡ set → Skips s place (part f xs) place
-  part_unset f set e [] h = skip_none
-  part_unset f set e (x ∷ xs) h = absurd (false≢true (sym e ∙ sym h))
+  pub part_if : {A : Type 0} (f : List A → Bytes) (set : Bool) {r : ℕ} → (set ≡ true → (xs : List A) → Skips s place (f xs) r) → (set ≡ false → r ≡ place)
+      → (xs : List A) → stands xs ≡ set → Skips s place (part f xs) r
+  part_if f set g e [] h = subst (Skips s place []) (sym (e (sym h))) skip_none
+  part_if f set g e (x ∷ xs) h = g (sym h) (x ∷ xs)
 
   -- a dictionary number under a bit
-  pub dict_id_there : (set : Bool) (r : ℕ) → set ≡ true → Ahead s place 8 r → (n : ℕ) → dict_id_stands n ≡ set → Skips s place (dict_id_bytes n) r
-  dict_id_there set r e a zero h = absurd (false≢true (h ∙ e))
-  dict_id_there set r e a (suc n) h = skip_ahead (u64 (suc n)) (length_u64 (suc n)) a.1
-
-  pub dict_id_none : (set : Bool) → set ≡ false → (n : ℕ) → dict_id_stands n ≡ set → Skips s place (dict_id_bytes n) place
-  dict_id_none set e zero h = skip_none
-  dict_id_none set e (suc n) h = absurd (false≢true (sym e ∙ sym h))
+  dict_id_if : (set : Bool) {r : ℕ} → (set ≡ true → (n : ℕ) → Skips s place (u64 n) r) → (set ≡ false → r ≡ place) → (n : ℕ) → dict_id_stands n ≡ set → Skips s place (dict_id_bytes n) r
+  dict_id_if set g e zero h = subst (Skips s place []) (sym (e (sym h))) skip_none
+  dict_id_if set g e (suc n) h = g (sym h) (suc n)
 
 -- The bits of a sheet's map
 
@@ -77,18 +83,27 @@ module _ (a b : Bool) where
   pub sheet_columns_bit : eqb ((flag 1 a + flag 2 b) / 2 % 2) 1 ≡ b
   sheet_columns_bit = is_one ((flag 1 a + flag 2 b) / 2 % 2) b (omega (arith, flag_one 1 a, flag_one 2 b))
 
+  -- the same, by their numbers
+  pub sheet_metadata_set : bit 0 (flag 1 a + flag 2 b) ≡ a
+  unfolding bit
+  sheet_metadata_set = is_one ((flag 1 a + flag 2 b) / 1 % 2) a (omega (arith, flag_one 1 a, flag_one 2 b))
+
+  pub sheet_columns_set : bit 1 (flag 1 a + flag 2 b) ≡ b
+  unfolding bit
+  sheet_columns_set = sheet_columns_bit
+
 module _ {s : Bytes} {place : ℕ} where
-  pub front_skips : {map name metadata r : ℕ} → map ≡ get_or s place 0 → Ahead s place 1 name
-      → ((t : Bytes) → stands t ≡ eqb (map / 4 % 2) 1 → Skips s name (part text_bytes t) metadata)
-      → ((m : Metadata) → stands m ≡ eqb (map / 8 % 2) 1 → Skips s metadata (part (with_count pair_bytes) m) r)
+  pub front_skips : {map name metadata r : ℕ} {n m : Bool} → map ≡ get_or s place 0 → Ahead s place 1 name
+      → n ≡ bit 2 map → (n ≡ true → (t : Bytes) → Skips s name (text_bytes t) metadata) → (n ≡ false → metadata ≡ name)
+      → m ≡ bit 3 map → (m ≡ true → (x : Metadata) → Skips s metadata (with_count pair_bytes x) r) → (m ≡ false → r ≡ metadata)
       → (h : Head) → Skips s place (front_bytes h) r
-  unfolding front_bytes
-  front_skips {map} e a f g h =
+  unfolding front_bytes bit
+  front_skips e a i f g j k o h =
       skip_when λ st.
       let w = e ∙ byte_stands st in
       skip_join (skip_ahead (_ ∷ []) refl a.1)
-      (skip_join (f h.name (sym (ap (λ m. eqb (m / 4 % 2) 1) w ∙ name_set h)))
-      (g h.metadata (sym (ap (λ m. eqb (m / 8 % 2) 1) w ∙ metadata_set h))))
+      (skip_join (part_if text_bytes _ f g h.name (sym (i ∙ ap (bit 2) w ∙ name_set h)))
+      (part_if (with_count pair_bytes) _ k o h.metadata (sym (j ∙ ap (bit 3) w ∙ metadata_set h))))
 
   -- a head begins with its front
   pub front_stands : (h : Head) → Stands s place (head_bytes h) → Stands s place (front_bytes h)
@@ -99,17 +114,12 @@ module _ {s : Bytes} {place : ℕ} where
   unfolding front_bytes
   map_stands e h st = e ∙ byte_stands (front_stands h st)
 
-  pub head_skips : {map end r : ℕ} → map ≡ get_or s place 0 → ((h : Head) → Skips s place (front_bytes h) end)
-      → ((n : ℕ) → dict_id_stands n ≡ eqb (map / 16 % 2) 1 → Skips s end (dict_id_bytes n) r)
-      → (h : Head) → Skips s place (head_bytes h) r
-  unfolding head_bytes
-  head_skips e f k h =
+  pub head_skips : {map end r : ℕ} {n : Bool} → map ≡ get_or s place 0 → ((h : Head) → Skips s place (front_bytes h) end)
+      → n ≡ bit 4 map → (n ≡ true → (k : ℕ) → Skips s end (u64 k) r) → (n ≡ false → r ≡ end) → (h : Head) → Skips s place (head_bytes h) r
+  unfolding head_bytes bit
+  head_skips e f i k o h =
       skip_when λ st.
-      skip_join (f h) (k h.dict_id (sym (ap (λ m. eqb (m / 16 % 2) 1) (map_stands e h st) ∙ dict_id_set h)))
-
-zone_bit : (m k : ℕ) → k ≡ m → bit 0 m ≡ eqb (k % 2) 1
-unfolding bit
-zone_bit m k e = let w : m / 1 % 2 ≡ k % 2 = omega (arith, e) in ap (λ x. eqb x 1) w
+      skip_join (f h) (dict_id_if _ k o h.dict_id (sym (i ∙ ap (bit 4) (map_stands e h st) ∙ dict_id_set h)))
 
 -- Parameters
 
@@ -119,26 +129,15 @@ items_width [] b w = ap length w
 items_width (p ∷ ps) b (c, d, e, n, f, w) = ap length e ∙ length-append c d ∙ omega (arith, n, items_width ps d w)
 
 -- parameters but a time stamp's are as wide as their kind
-pub kind_width : (k : ℕ) → (k ≡ 1 → ⊥) → (b : Bytes) → WellFormedParams (params_by k) b → length b ≡ width (params_by k)
-unfolding params_by width
-kind_width zero h b w = items_width _ b w
-kind_width (suc zero) h b w = absurd (h refl)
-kind_width (suc (suc zero)) h b w = items_width _ b w
-kind_width (suc (suc (suc zero))) h b w = items_width _ b w
-kind_width (suc (suc (suc (suc zero)))) h b w = items_width _ b w
-kind_width (suc (suc (suc (suc (suc zero))))) h b w = items_width _ b w
-kind_width (suc (suc (suc (suc (suc (suc k)))))) h b w = items_width _ b w
-
--- the width of the kinds that no arm names
-pub last_width : (k : ℕ) → (k ≡ 0 → ⊥) → (k ≡ 2 → ⊥) → (k ≡ 3 → ⊥) → (k ≡ 4 → ⊥) → (k ≡ 5 → ⊥) → 2 ≡ width (params_by k)
-unfolding params_by width widths
-last_width zero a b c d e = absurd (a refl)
-last_width (suc zero) a b c d e = refl
-last_width (suc (suc zero)) a b c d e = absurd (b refl)
-last_width (suc (suc (suc zero))) a b c d e = absurd (c refl)
-last_width (suc (suc (suc (suc zero)))) a b c d e = absurd (d refl)
-last_width (suc (suc (suc (suc (suc zero))))) a b c d e = absurd (e refl)
-last_width (suc (suc (suc (suc (suc (suc k)))))) a b c d e = refl
+kind_width : (k : ParamsKind) → (k ≡ Timestamp → ⊥) → (b : Bytes) → WellFormedParams (params_of k) b → length b ≡ width (params_of k)
+unfolding params_of width
+kind_width None h b w = items_width _ b w
+kind_width Timestamp h b w = absurd (h refl)
+kind_width Unit h b w = items_width _ b w
+kind_width IntervalUnit h b w = items_width _ b w
+kind_width Int32 h b w = items_width _ b w
+kind_width Flag h b w = items_width _ b w
+kind_width Decimal h b w = items_width _ b w
 
 module _ {s : Bytes} {place : ℕ} where
   num_one : (m : Bytes) → length m ≡ 1 → (b : Bytes) → Stands s place (m ++ b) → get_or s place 0 ≡ num m
@@ -148,29 +147,27 @@ module _ {s : Bytes} {place : ℕ} where
   num_one (x ∷ y ∷ m) h b st = absurd (omega (arith, h))
 
 module _ {s : Bytes} {place : ℕ} where
-  pub zone_set : (set : Bool) (r : ℕ) → set ≡ true → ((n t : Bytes) → length n ≡ 2 → length t ≡ num n → Skips s place (n ++ t) r) → (z : Bytes) → WellFormedZone set z → Skips s place z r
-  zone_set true r e f z (n, t, w, h, i, u) = subst (λ z. Skips s place z r) (sym w) (f n t h i)
-  zone_set false r e f z w = absurd (false≢true e)
+  pub zone_if : (set : Bool) {r : ℕ} → (set ≡ true → (n t : Bytes) → length n ≡ 2 → length t ≡ num n → Skips s place (n ++ t) r) → (set ≡ false → r ≡ place)
+      → (z : Bytes) → WellFormedZone set z → Skips s place z r
+  zone_if true {r} f e z (n, t, w, h, i, u) = subst (λ z. Skips s place z r) (sym w) (f refl n t h i)
+  zone_if false {r} f e z w = subst₂ (Skips s place) (sym w) (sym (e refl)) skip_none
 
-  pub zone_unset : (set : Bool) → set ≡ false → (z : Bytes) → WellFormedZone set z → Skips s place z place
-  zone_unset true e z w = absurd (false≢true (sym e))
-  zone_unset false e z w = subst (λ z. Skips s place z place) (sym w) skip_none
+  pub params_skips : (code : ℕ) {k : ParamsKind} {w r : ℕ} → params_of k ≡ (layout code).params → (k ≡ Timestamp → ⊥) → w ≡ width (params_of k) → Ahead s place w r
+      → (b : Bytes) → WellFormedParams (layout code).params b → Skips s place b r
+  params_skips code {k} h n e a b g = skip_ahead b (kind_width k n b (subst (λ p. WellFormedParams p b) (sym h) g) ∙ sym e) a.1
 
-  pub timestamp_skips : {map k zone r : ℕ} → Ahead s place 1 map → k ≡ get_or s map 0 → Ahead s map 1 zone
-      → ((z : Bytes) → WellFormedZone (eqb (k % 2) 1) z → Skips s zone z r)
+  pub params_timestamp : (code : ℕ) {k : ParamsKind} {r : ℕ} → params_of k ≡ (layout code).params → k ≡ Timestamp → ((b : Bytes) → WellFormedParams timestamp b → Skips s place b r)
+      → (b : Bytes) → WellFormedParams (layout code).params b → Skips s place b r
+  unfolding params_of
+  params_timestamp code h e f b g = f b (subst (λ p. WellFormedParams p b) (sym h ∙ ap params_of e) g)
+
+module _ {s : Bytes} {place : ℕ} where
+  pub timestamp_skips : {map k zone r : ℕ} {n : Bool} → Ahead s place 1 map → k ≡ get_or s map 0 → Ahead s map 1 zone
+      → n ≡ bit 0 k → (n ≡ true → (n t : Bytes) → length n ≡ 2 → length t ≡ num n → Skips s zone (n ++ t) r) → (n ≡ false → r ≡ zone)
       → (b : Bytes) → WellFormedParams timestamp b → Skips s place b r
-  timestamp_skips {r = r} a e c f b (u, m, z, w, h, i, p, q, v) =
+  timestamp_skips {r = r} a e c x f g b (u, m, z, w, h, i, p, q, v) =
       subst (λ b. Skips s place b r) (sym w)
       (skip_when λ st.
       let first = skip_ahead u h a.1 in
       let n = e ∙ num_one m i z (stands_behind first st) in
-      skip_join first (skip_join (skip_ahead m i c.1) (f z (subst (λ x. WellFormedZone x z) (zone_bit (num m) _ n) v))))
-
-  pub params_skips : (code : ℕ) {k w r : ℕ} → params_by k ≡ (layout code).params → (k ≡ 1 → ⊥) → w ≡ width (params_by k) → Ahead s place w r
-      → (b : Bytes) → WellFormedParams (layout code).params b → Skips s place b r
-  params_skips code {k} h n e a b g = skip_ahead b (kind_width k n b (subst (λ p. WellFormedParams p b) (sym h) g) ∙ sym e) a.1
-
-  pub params_timestamp : (code : ℕ) {k r : ℕ} → params_by k ≡ (layout code).params → k ≡ 1 → ((b : Bytes) → WellFormedParams timestamp b → Skips s place b r)
-      → (b : Bytes) → WellFormedParams (layout code).params b → Skips s place b r
-  unfolding params_by
-  params_timestamp code h e f b g = f b (subst (λ p. WellFormedParams p b) (sym h ∙ ap params_by e) g)
+      skip_join first (skip_join (skip_ahead m i c.1) (zone_if _ f g z (subst (λ y. WellFormedZone y z) (sym (x ∙ ap (bit 0) n)) v))))

@@ -1,54 +1,52 @@
 -- Where the columns of a sheet stand.
-use Prim.Native.Nat.{ℕ, ◌/◌, ◌%◌, ◌≤◌, ◌<◌}
+use Prim.Native.Nat.{ℕ, ◌≤◌, ◌<◌}
 use native.Mathlib.Omega.{arith}
 use mathlib.Core.Path.{◌≡◌, refl, sym, ap, ◌∙◌}
 use mathlib.Core.List.{List, [], ◌∷◌}
-use mathlib.Core.Bool.{false≢true}
+use mathlib.Core.Bool.{Bool, true, false, false≢true}
 use lib.ListN.{length, get_or, length-append}
-use lib.Dec.{eqb}
-use borrow.Author.Tests.{eq-eqb, ne_eqb}
 use Rattle.model.specs.Numbers.{max_levels}
-use Rattle.model.specs.Bytes.{Bytes, Metadata, u16}
+use Rattle.model.specs.Bytes.{Bytes, Metadata, u16, bit}
 use Rattle.model.specs.Tree.{Field, Schema}
 use Rattle.model.specs.Sheet.{front_bytes, dict_id_bytes, each, part, stands, with_count, pair_bytes, head_bytes, field_bytes, type_bytes, column_bytes, sheet_bytes}
-use Rattle.walk.specs.Stands.{Stands, Skips, SkipsFields, ColumnsAt, SkipsSheet}
+use Rattle.walk.specs.Stands.{Stands, Skips, SkipsRow, ColumnsAt, SkipsSheet}
 use Rattle.walk.proofs.Standing.{byte_stands, stands_behind, skip_ahead, skip_join, skip_self}
 use Rattle.walk.proofs.Descents.{count_stands, elements_stand}
-use Rattle.walk.proofs.Parts.{Ahead, two_at, sheet_metadata_bit, sheet_columns_bit}
+use Rattle.walk.proofs.Parts.{Ahead, two_at, part_if, sheet_metadata_set, sheet_columns_set}
 
-module _ {s : Bytes} {place map metadata first : ℕ} (e : map ≡ get_or s place 0) (a : Ahead s place 1 metadata)
-    (f : (m : Metadata) → stands m ≡ eqb (map % 2) 1 → Skips s metadata (part (with_count pair_bytes) m) first) where
+module _ {s : Bytes} {place map metadata first : ℕ} {set : Bool} (e : map ≡ get_or s place 0) (a : Ahead s place 1 metadata)
+    (i : set ≡ bit 0 map) (f : set ≡ true → (m : Metadata) → Skips s metadata (with_count pair_bytes m) first) (g : set ≡ false → first ≡ metadata) where
   -- the map and the metadata, where a sheet stands
   front : (m : Metadata) (cs : List (Field max_levels)) → Stands s place (sheet_bytes (record { metadata = m; columns = cs }))
       → Skips s metadata (part (with_count pair_bytes) m) first
   unfolding sheet_bytes
-  front m cs st = f m (sym (ap (λ n. eqb (n % 2) 1) (e ∙ byte_stands st) ∙ sheet_metadata_bit (stands m) (stands cs)))
+  front m cs st = part_if (with_count pair_bytes) set f g m (sym (i ∙ ap (bit 0) (e ∙ byte_stands st) ∙ sheet_metadata_set (stands m) (stands cs)))
 
   columns_bit : (m : Metadata) (cs : List (Field max_levels)) → Stands s place (sheet_bytes (record { metadata = m; columns = cs }))
-      → eqb (map / 2 % 2) 1 ≡ stands cs
+      → bit 1 map ≡ stands cs
   unfolding sheet_bytes
-  columns_bit m cs st = ap (λ n. eqb (n / 2 % 2) 1) (e ∙ byte_stands st) ∙ sheet_columns_bit (stands m) (stands cs)
+  columns_bit m cs st = ap (bit 1) (e ∙ byte_stands st) ∙ sheet_columns_set (stands m) (stands cs)
 
-  pub columns_some : {n at : ℕ} → map / 2 % 2 ≡ 1 → n ≡ two_at s first → Ahead s first 2 at → (x : Schema) → Stands s place (sheet_bytes x) → ColumnsAt s place x n at
+  pub columns_some : {k : Bool} {n at : ℕ} → k ≡ bit 1 map → k ≡ true → n ≡ two_at s first → Ahead s first 2 at → (x : Schema) → Stands s place (sheet_bytes x) → ColumnsAt s place x n at
   unfolding sheet_bytes with_count u16
-  columns_some {n} {at} h i b x st = go x.metadata x.columns st
+  columns_some {n = n} {at = at} j h c b x st = go x.metadata x.columns st
     where
       go : (m : Metadata) (cs : List (Field max_levels)) → Stands s place (sheet_bytes (record { metadata = m; columns = cs })) → ColumnsAt s place (record { metadata = m; columns = cs }) n at
-      go m [] st = absurd (false≢true (sym (columns_bit m [] st) ∙ eq-eqb _ 1 h))
+      go m [] st = absurd (false≢true (sym (columns_bit m [] st) ∙ sym j ∙ h))
       go m (x ∷ cs) st =
           let p = skip_ahead (_ ∷ []) refl a.1 in
           let q = front m (x ∷ cs) st in
           let st' = stands_behind q (stands_behind p st) in
           let u = skip_ahead (u16 (length (x ∷ cs))) refl b.1 in
           record {
-            count = i ∙ count_stands column_bytes (x ∷ cs) st';
+            count = c ∙ count_stands column_bytes (x ∷ cs) st';
             stands = elements_stand column_bytes (x ∷ cs) b st';
             ends = (skip_join p (skip_join q (skip_join u skip_self))).behind st;
           }
 
-  pub columns_none : (map / 2 % 2 ≡ 1 → ⊥) → (x : Schema) → Stands s place (sheet_bytes x) → ColumnsAt s place x 0 first
+  pub columns_none : {k : Bool} → k ≡ bit 1 map → k ≡ false → (x : Schema) → Stands s place (sheet_bytes x) → ColumnsAt s place x 0 first
   unfolding sheet_bytes
-  columns_none h x st = go x.metadata x.columns st
+  columns_none j h x st = go x.metadata x.columns st
     where
       go : (m : Metadata) (cs : List (Field max_levels)) → Stands s place (sheet_bytes (record { metadata = m; columns = cs })) → ColumnsAt s place (record { metadata = m; columns = cs }) 0 first
       go m [] st =
@@ -59,14 +57,14 @@ module _ {s : Bytes} {place map metadata first : ℕ} (e : map ≡ get_or s plac
             stands = stands_behind q (stands_behind p st);
             ends = (skip_join p (skip_join q skip_self)).behind st;
           }
-      go m (x ∷ cs) st = absurd (false≢true (sym (ne_eqb _ 1 h) ∙ columns_bit m (x ∷ cs) st))
+      go m (x ∷ cs) st = absurd (false≢true (sym h ∙ j ∙ columns_bit m (x ∷ cs) st))
 
 -- the columns reach to the end of the sheet
-pub sheet_skips : {s : Bytes} {place n first r : ℕ} → ((x : Schema) → Stands s place (sheet_bytes x) → ColumnsAt s place x n first) → SkipsFields s first n max_levels r → SkipsSheet s place r
+pub sheet_skips : {s : Bytes} {place n first r : ℕ} → ((x : Schema) → Stands s place (sheet_bytes x) → ColumnsAt s place x n first) → SkipsRow s first n 0 max_levels r → SkipsSheet s place r
 sheet_skips g f x w = record {
   behind = λ st.
       let c = g x st in
-      (f max_levels x.columns (omega arith) (sym c.count) w).behind c.stands ∙ c.ends;
+      (f max_levels (λ h. []) x.columns (λ h. refl) (omega arith) (sym c.count) w).behind c.stands ∙ c.ends;
 }
 
 -- a column takes a byte at least, so there are no more columns than bytes

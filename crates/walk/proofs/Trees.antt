@@ -1,16 +1,17 @@
 -- Types and their children: the place behind each, from the places that the code's steps give.
-use Prim.Native.Nat.{ℕ, zero, suc, ◌-◌, ◌≤◌, ◌<◌}
+use Prim.Native.Nat.{ℕ, zero, suc, ◌-◌}
 use native.Mathlib.Omega.{arith}
-use mathlib.Core.Path.{◌≡◌, refl, sym, ap, subst, ◌∙◌}
+use mathlib.Core.Path.{◌≡◌, refl, sym, subst, ◌∙◌}
 use mathlib.Core.List.{[], ◌∷◌}
 use lib.ListN.{get_or}
 use Rattle.model.specs.Bytes.{Bytes}
 use Rattle.model.specs.Tree.{Layout, Children, layout, leaf}
-use Rattle.model.specs.Tree.Children.{fields, key_and_value, counted, counted_with_ids}
+use Rattle.model.specs.Tree.Children.{fields, key_and_value}
 use Rattle.model.specs.Sheet.{field_bytes, children_bytes, type_bytes}
 use Rattle.model.specs.WellFormed.{WellFormedParams, CountFits}
-use Rattle.walk.specs.Stands.{Skips, SkipsType, SkipsFields, member_bytes, SkipsMembers, SkipsChildren}
-use Rattle.layout.specs.Kinds.{children_by}
+use Rattle.walk.specs.Stands.{Skips, SkipsType, SkipsRow, member_bytes, SkipsChildren}
+use Rattle.layout.specs.declared.ChildrenKind.TheVariants.{Fields, KeyAndValue, Counted, CountedWithIds}
+use Rattle.layout.specs.Kinds.{children_of}
 use Rattle.walk.proofs.Standing.{byte_stands, skip_none, skip_ahead, skip_when, skip_join}
 use Rattle.walk.proofs.Parts.{Ahead, two_at, list_skips}
 
@@ -28,40 +29,19 @@ module _ {s : Bytes} {place : ℕ} (levels : ℕ) where
       (subst (λ c. Skips s children (children_bytes (type_bytes l) (layout c).children t.children) r) w
       (g l t.children (omega arith) (subst (λ c. CountFits (layout c).children t.children) (sym w) n) q)))
 
-  -- no type is of no level
-  pub no_level : (r : ℕ) → levels ≤ 0 → SkipsType s place levels r
-  no_level r h zero t k w = absurd w
-  no_level r h (suc l) t k w = absurd (omega (arith, h, k))
-
 -- Children by their kind
 
-fields_kind : (k : ℕ) → k < 3 → children_by k ≡ fields k
-unfolding children_by
-fields_kind zero h = refl
-fields_kind (suc zero) h = refl
-fields_kind (suc (suc zero)) h = refl
-fields_kind (suc (suc (suc k))) h = absurd (omega (arith, h))
+module _ {s : Bytes} {place : ℕ} (levels code : ℕ) where
+  abbrev by_kind : {c : Children} {r : ℕ} → c ≡ (layout code).children → SkipsChildren s place c levels r → SkipsChildren s place (layout code).children levels r
+  by_kind {r = r} d g = subst (λ c. SkipsChildren s place c levels r) d g
 
-last_kind : (k : ℕ) → 3 ≤ k → (k ≡ 3 → ⊥) → (k ≡ 4 → ⊥) → children_by k ≡ counted_with_ids
-unfolding children_by
-last_kind zero h a b = absurd (omega (arith, h))
-last_kind (suc zero) h a b = absurd (omega (arith, h))
-last_kind (suc (suc zero)) h a b = absurd (omega (arith, h))
-last_kind (suc (suc (suc zero))) h a b = absurd (a refl)
-last_kind (suc (suc (suc (suc zero)))) h a b = absurd (b refl)
-last_kind (suc (suc (suc (suc (suc k))))) h a b = refl
+  pub kids_fields : {n r : ℕ} → children_of (Fields n) ≡ (layout code).children → SkipsRow s place n 0 levels r → SkipsChildren s place (layout code).children levels r
+  unfolding children_bytes children_of
+  kids_fields d f = by_kind d (λ l ks b n q. f l (λ h. []) ks (λ h. refl) b n q)
 
-module _ {s : Bytes} {place : ℕ} (levels code : ℕ) {k j : ℕ} (e : k ≡ j) (d : children_by j ≡ (layout code).children) where
-  abbrev by_kind : (c : Children) (r : ℕ) → children_by k ≡ c → SkipsChildren s place c levels r → SkipsChildren s place (layout code).children levels r
-  by_kind c r h g = subst (λ c. SkipsChildren s place c levels r) (sym h ∙ ap children_by e ∙ d) g
-
-  pub kids_fields : {r : ℕ} → k < 3 → SkipsFields s place k levels r → SkipsChildren s place (layout code).children levels r
-  unfolding children_bytes
-  kids_fields {r} h f = by_kind (fields k) r (fields_kind k h) f
-
-  pub kids_types : {m r : ℕ} → k ≡ 3 → SkipsType s place levels m → SkipsType s m levels r → SkipsChildren s place (layout code).children levels r
-  unfolding children_bytes children_by
-  kids_types {m} {r} h f g = by_kind key_and_value r (ap children_by h) go
+  pub kids_types : {m r : ℕ} → children_of KeyAndValue ≡ (layout code).children → SkipsType s place levels m → SkipsType s m levels r → SkipsChildren s place (layout code).children levels r
+  unfolding children_bytes children_of
+  kids_types {m} {r} d f g = by_kind d go
     where
       go : SkipsChildren s place key_and_value levels r
       go l [] b n q = absurd (omega (arith, n))
@@ -69,22 +49,24 @@ module _ {s : Bytes} {place : ℕ} (levels code : ℕ) {k j : ℕ} (e : k ≡ j)
       go l (x ∷ y ∷ []) b n q = skip_join (f l x.data_type b q.0) (skip_join (g l y.data_type b q.1.0) skip_none)
       go l (x ∷ y ∷ z ∷ ks) b n q = absurd (omega (arith, n))
 
-  pub kids_counted : {first n r : ℕ} → k ≡ 4 → Ahead s place 2 first → n ≡ two_at s place → SkipsFields s first n levels r → SkipsChildren s place (layout code).children levels r
-  unfolding children_bytes children_by
-  kids_counted {r = r} h a i f = by_kind counted r (ap children_by h) (λ l ks b n q. list_skips (field_bytes (type_bytes l)) a i ks (λ c. f l ks b c q))
+  pub kids_counted : {first n r : ℕ} → children_of Counted ≡ (layout code).children → Ahead s place 2 first → n ≡ two_at s place → SkipsRow s first n 0 levels r
+      → SkipsChildren s place (layout code).children levels r
+  unfolding children_bytes children_of
+  kids_counted d a i f = by_kind d (λ l ks b n q. list_skips (field_bytes (type_bytes l)) a i ks (λ c. f l (λ h. []) ks (λ h. refl) b c q))
 
-  pub kids_members : {first n r : ℕ} → 3 ≤ k → (k ≡ 3 → ⊥) → (k ≡ 4 → ⊥) → Ahead s place 2 first → n ≡ two_at s place → SkipsMembers s first n levels r → SkipsChildren s place (layout code).children levels r
-  unfolding children_bytes
-  kids_members {r = r} h o u a i f = by_kind counted_with_ids r (last_kind k h o u) (λ l ks b n q. list_skips (member_bytes l) a i ks (λ c. f l ks b c q))
+  pub kids_members : {first n r : ℕ} → children_of CountedWithIds ≡ (layout code).children → Ahead s place 2 first → n ≡ two_at s place → SkipsRow s first n 1 levels r
+      → SkipsChildren s place (layout code).children levels r
+  unfolding children_bytes children_of
+  kids_members d a i f = by_kind d (λ l ks b n q. list_skips (member_bytes l) a i ks (λ c. f l (λ h. h.type_id ∷ []) ks (λ h. refl) b c q))
 
 -- Types with neither parameters nor children: their code alone
 
-no_fields : {s : Bytes} {place : ℕ} (levels : ℕ) → SkipsFields s place 0 levels place
+no_fields : {s : Bytes} {place : ℕ} (levels : ℕ) → SkipsChildren s place (fields 0) levels place
+unfolding children_bytes
 no_fields levels l [] h n w = skip_none
 no_fields levels l (k ∷ ks) h n w = absurd (omega (arith, n))
 
 pub plain_skips : {s : Bytes} {place : ℕ} (levels : ℕ) {code behind : ℕ} → code ≡ get_or s place 0 → layout code ≡ leaf → Ahead s place 1 behind → SkipsType s place levels behind
-unfolding children_bytes
 plain_skips {s} {place} levels {code} {behind} e h a =
     type_skips levels e a
     (λ b w. subst (λ b. Skips s behind b behind) (sym (subst (λ (p : Layout). WellFormedParams p.params b) h w)) skip_none)

@@ -2,7 +2,7 @@
 use Rattle.std.specs.Prelude.{ℕ, ◌+◌, ◌≤◌, ◌≡◌, List, ◌∷◌, ◌++◌, Bool, length, drop}
 use Rattle.model.specs.Numbers.{max_levels}
 use Rattle.model.specs.Bytes.{Bytes, Every}
-use Rattle.model.specs.Tree.{DataType, Field, Schema, Children}
+use Rattle.model.specs.Tree.{Head, DataType, Field, Schema, Children}
 use Rattle.model.specs.Sheet.{each, field_bytes, children_bytes, type_bytes, column_bytes, sheet_bytes}
 use Rattle.model.specs.WellFormed.{CountFits, LaidOut}
 use Rattle.model.specs.Datatype.{is_nested}
@@ -28,19 +28,15 @@ SkipsField s place levels r = (l : ℕ) (f : Field l) → l ≤ levels → LaidO
 abbrev pub AllLaidOut : (l : ℕ) → List (Field l) → Type 0
 AllLaidOut l ks = Every (λ k. LaidOut l k.data_type) ks
 
--- so many fields
-abbrev pub SkipsFields : (s : Bytes) (place count levels r : ℕ) → Type 0
-SkipsFields s place count levels r =
-    (l : ℕ) (ks : List (Field l)) → l ≤ levels → length ks ≡ count → AllLaidOut l ks → Skips s place (each (field_bytes (type_bytes l)) ks) r
+-- so many fields, and so many bytes before each
+abbrev pub SkipsRow : (s : Bytes) (place count before levels r : ℕ) → Type 0
+SkipsRow s place count before levels r =
+    (l : ℕ) (front : Head → Bytes) (ks : List (Field l)) → ((h : Head) → length (front h) ≡ before) → l ≤ levels → length ks ≡ count → AllLaidOut l ks
+    → Skips s place (each (λ k. front k.head ++ field_bytes (type_bytes l) k) ks) r
 
 -- a union's child: an id and a field
 abbrev pub member_bytes : (l : ℕ) → Field l → Bytes
 member_bytes l k = k.head.type_id ∷ field_bytes (type_bytes l) k
-
--- so many union children
-abbrev pub SkipsMembers : (s : Bytes) (place count levels r : ℕ) → Type 0
-SkipsMembers s place count levels r =
-    (l : ℕ) (ks : List (Field l)) → l ≤ levels → length ks ≡ count → AllLaidOut l ks → Skips s place (each (member_bytes l) ks) r
 
 -- the children of a type, of a kind
 abbrev pub SkipsChildren : (s : Bytes) (place : ℕ) → Children → (levels r : ℕ) → Type 0

@@ -3,62 +3,67 @@
 // there, it gives the place behind it. On other bytes its answer means nothing, but nothing goes out of bounds.
 #![tactic(auto)]
 
-ghost use Rattle.std.specs.Prelude.{◌≡◌, ◌++◌, ℕ, ◌+◌, ◌*◌, ◌<◌, ◌≤◌, length, get_or};
-ghost use Rattle.model.specs.Bytes.{Bytes, Metadata, num};
+ghost use Rattle.std.specs.Prelude.{◌≡◌, ◌++◌, ℕ, ◌+◌, ◌*◌, ◌<◌, ◌≤◌, true, false, length, get_or};
+ghost use Rattle.model.specs.Bytes.{Bytes, Metadata, num, bit, u64};
 ghost use Rattle.model.specs.Tree.{Head, Schema, layout};
 ghost use Rattle.model.specs.Tree.Params.{timestamp};
-ghost use Rattle.model.specs.Sheet.{front_bytes, dict_id_bytes, dict_id_stands, each, with_count, part, stands, text_bytes, pair_bytes, head_bytes, sheet_bytes};
-ghost use Rattle.model.specs.WellFormed.{WellFormedZone, WellFormedParams};
+ghost use Rattle.model.specs.Sheet.{front_bytes, each, with_count, text_bytes, pair_bytes, head_bytes, sheet_bytes};
+ghost use Rattle.model.specs.WellFormed.{WellFormedParams};
 ghost use Rattle.model.specs.Datatype.{holds_fields};
 ghost use Rattle.buffer.specs.Puts.{Puts};
-ghost use Rattle.walk.specs.Stands.{Stands, Skips, SkipsType, SkipsField, SkipsFields, SkipsMembers, SkipsChildren, TellsNested, ColumnsAt, SkipsSheet};
-ghost use Rattle.layout.specs.Kinds.{params_by};
+ghost use Rattle.walk.specs.Stands.{Stands, Skips, SkipsType, SkipsField, SkipsRow, SkipsChildren, TellsNested, ColumnsAt, SkipsSheet};
+ghost use Rattle.layout.specs.Kinds.{params_of};
 ghost use Rattle.walk.specs.Widths.{width};
 
+use layout::{ChildrenKind, DICTIONARY, LIST, MAP, ParamsKind, RUN_END_ENCODED, UNION};
 use sheet::Cursor;
-
-// Codes that `is_nested` speaks of, in the order of `DataType`.
-const LIST: usize = 27;
-
-const UNION: usize = 33;
-
-const DICTIONARY: usize = 34;
-
-const MAP: usize = 39;
-
-const RUN_END_ENCODED: usize = 40;
 
 // The byte at a place, 0 past the end.
 pub fn byte(s: &[u8], at: usize) -> usize
     ensures { (result ≡ get_or s.now at 0) × (result < 256) }
 {
-    if s.len() <= at {
-        return 0;
-    }
-    buffer::wide(s[at])
+    s.get(at).map_or(0, |b| usize::from(*b))
 }
 
 // The number of two bytes at a place, the low byte first.
 pub fn two(s: &[u8], at: usize) -> usize
     ensures { (result ≡ get_or s.now at 0 + 256 * get_or s.now (at + 1) 0) × (result < 65536) }
 {
-    if s.len() <= at {
-        return 0;
-    }
-    byte(s, at) + 256 * byte(s, at + 1)
+    byte(s, at) + 256 * byte(s, at.saturating_add(1))
+}
+
+// Whether a bit of a map is set, the bit by its number.
+pub fn bit(map: usize, k: u32) -> bool
+    ensures { result ≡ bit k map }
+{
+    map.unbounded_shr(k) % 2 == 1
 }
 
 // So many bytes on, at most to the end.
 pub fn ahead(s: &[u8], at: usize, n: usize) -> usize
     ensures { (result ≤ length s.now) × (at + n ≤ length s.now → result ≡ at + n) }
 {
-    if s.len() <= at {
-        return s.len();
+    at.saturating_add(n).min(s.len())
+}
+
+// So many elements, one behind the other from a place on.
+#[derive(Clone, Copy)]
+pub struct Elements {
+    pub count: usize,
+    pub at: usize,
+}
+
+impl Elements {
+    // Those that stand behind their count.
+    pub fn counted(s: &[u8], at: usize) -> Self
+        ensures count { result.count ≡ get_or s.now at 0 + 256 * get_or s.now (at + 1) 0 }
+        ensures at { (result.at ≤ length s.now) × (at + 2 ≤ length s.now → result.at ≡ at + 2) }
+    {
+        Self {
+            count: two(s, at),
+            at: ahead(s, at, 2),
+        }
     }
-    if s.len() - at < n {
-        return s.len();
-    }
-    at + n
 }
 
 // A length of two bytes, and so many bytes behind it.
@@ -77,15 +82,13 @@ pub fn skip_text(s: &[u8], at: usize) -> usize
 }
 
 // So many keys and values.
-fn skip_pairs(s: &[u8], at: usize, count: usize) -> usize
-    ensures { (m : Metadata) → length m ≡ count → Skips s.now at (each pair_bytes m) result }
+fn skip_pairs(s: &[u8], pairs: Elements) -> usize
+    ensures { (m : Metadata) → length m ≡ pairs.count → Skips s.now pairs.at (each pair_bytes m) result }
 {
-    let mut place = at;
-    let mut left = count;
-    while 0 < left {
+    let mut place = pairs.at;
+    for _ in 0..pairs.count {
         let value = skip_text(s, place);
         place = skip_text(s, value);
-        left -= 1;
     }
     place
 }
@@ -94,38 +97,23 @@ fn skip_pairs(s: &[u8], at: usize, count: usize) -> usize
 pub fn skip_metadata(s: &[u8], at: usize) -> usize
     ensures { (m : Metadata) → Skips s.now at (with_count pair_bytes m) result }
 {
-    let first = ahead(s, at, 2);
-    skip_pairs(s, first, two(s, at))
+    skip_pairs(s, Elements::counted(s, at))
 }
 
-// A string under a bit of a map.
-pub fn skip_text_if(s: &[u8], at: usize, set: bool) -> usize
-    ensures { (t : Bytes) → stands t ≡ set → Skips s.now at (part text_bytes t) result }
+// A field's dictionary number.
+fn skip_dict_id(s: &[u8], at: usize) -> usize
+    ensures { (n : ℕ) → Skips s.now at (u64 n) result }
 {
-    if set {
-        return skip_text(s, at);
-    }
-    at
+    ahead(s, at, 8)
 }
 
-// Metadata under a bit of a map.
-pub fn skip_metadata_if(s: &[u8], at: usize, set: bool) -> usize
-    ensures { (m : Metadata) → stands m ≡ set → Skips s.now at (part (with_count pair_bytes) m) result }
+// What stands under a bit of a map: a part that `skip` goes over where the bit is set, else nothing.
+pub fn skip_if<F: FnOnce(&[u8], usize) -> usize>(s: &[u8], at: usize, set: bool, skip: F) -> usize
+    requires { F.IsAlwaysCallable skip }
+    ensures set { set ≡ true → F.post skip s.entry at result }
+    ensures unset { set ≡ false → result ≡ at }
 {
-    if set {
-        return skip_metadata(s, at);
-    }
-    at
-}
-
-// A field's dictionary number under a bit of a map.
-pub fn skip_dict_id_if(s: &[u8], at: usize, set: bool) -> usize
-    ensures { (n : ℕ) → dict_id_stands n ≡ set → Skips s.now at (dict_id_bytes n) result }
-{
-    if set {
-        return ahead(s, at, 8);
-    }
-    at
+    if set { skip(s, at) } else { at }
 }
 
 // A field's map, name and metadata.
@@ -134,8 +122,8 @@ pub fn skip_front(s: &[u8], at: usize) -> usize
 {
     let map = byte(s, at);
     let name = ahead(s, at, 1);
-    let metadata = skip_text_if(s, name, map / 4 % 2 == 1);
-    skip_metadata_if(s, metadata, map / 8 % 2 == 1)
+    let metadata = skip_if(s, name, bit(map, 2), skip_text);
+    skip_if(s, metadata, bit(map, 3), skip_metadata)
 }
 
 // A field's map, name, metadata and dictionary number.
@@ -143,31 +131,21 @@ pub fn skip_head(s: &[u8], at: usize) -> usize
     ensures { (h : Head) → Skips s.now at (head_bytes h) result }
 {
     let map = byte(s, at);
-    skip_dict_id_if(s, skip_front(s, at), map / 16 % 2 == 1)
+    let number = skip_front(s, at);
+    skip_if(s, number, bit(map, 4), skip_dict_id)
 }
 
 // How many bytes parameters of a kind take, a time stamp's without its zone.
-fn params_width(kind: u8) -> usize
-    ensures { result ≡ width (params_by kind) }
+#[tactic(auto, unfolding(layout::specs::Kinds::params_of, crate::specs::Widths::width, crate::specs::Widths::widths))]
+fn params_width(kind: ParamsKind) -> usize
+    ensures { result ≡ width (params_of kind) }
 {
     match kind {
-        0 => 0,
-        2 => 1,
-        3 => 1,
-        4 => 4,
-        5 => 1,
-        _ => 2,
+        ParamsKind::None => 0,
+        ParamsKind::Unit | ParamsKind::IntervalUnit | ParamsKind::Flag => 1,
+        ParamsKind::Timestamp | ParamsKind::Decimal => 2,
+        ParamsKind::Int32 => 4,
     }
-}
-
-// A time zone under the bit of a time stamp's map.
-fn skip_zone_if(s: &[u8], at: usize, set: bool) -> usize
-    ensures { (z : Bytes) → WellFormedZone set z → Skips s.now at z result }
-{
-    if set {
-        return skip_counted(s, at);
-    }
-    at
 }
 
 // A time stamp's unit, map and zone.
@@ -176,15 +154,15 @@ fn skip_timestamp(s: &[u8], at: usize) -> usize
 {
     let map = ahead(s, at, 1);
     let zone = ahead(s, map, 1);
-    skip_zone_if(s, zone, byte(s, map) % 2 == 1)
+    skip_if(s, zone, bit(byte(s, map), 0), skip_counted)
 }
 
 // The parameters of a type.
 pub fn skip_params(s: &[u8], at: usize, code: usize) -> usize
     ensures { (b : Bytes) → WellFormedParams (layout code).params b → Skips s.now at b result }
 {
-    let kind = layout::params_kind(code);
-    if kind == 1 {
+    let kind = layout::params(code);
+    if kind == ParamsKind::Timestamp {
         return skip_timestamp(s, at);
     }
     ahead(s, at, params_width(kind))
@@ -207,7 +185,7 @@ pub fn skip_field(s: &[u8], at: usize, levels: usize) -> usize
 pub fn skip_type(s: &[u8], at: usize, levels: usize) -> usize
     ensures { SkipsType s.now at levels result }
 {
-    if levels <= 0 {
+    if levels == 0 {
         return at;
     }
     let code = byte(s, at);
@@ -224,70 +202,38 @@ pub fn skip_type(s: &[u8], at: usize, levels: usize) -> usize
 fn skip_children(s: &[u8], at: usize, code: usize, levels: usize) -> usize
     ensures { SkipsChildren s.now at (layout code).children levels result }
 {
-    let kind = buffer::wide(layout::children_kind(code));
-    if kind < 3 {
-        return skip_fields(s, at, kind, levels);
+    match layout::children(code) {
+        ChildrenKind::Fields(count) => skip_fields(s, Elements { count, at }, 0, levels),
+        ChildrenKind::KeyAndValue => skip_type(s, skip_type(s, at, levels), levels),
+        ChildrenKind::Counted => skip_fields(s, Elements::counted(s, at), 0, levels),
+        ChildrenKind::CountedWithIds => skip_fields(s, Elements::counted(s, at), 1, levels),
     }
-    if kind == 3 {
-        return skip_type(s, skip_type(s, at, levels), levels);
-    }
-    let first = ahead(s, at, 2);
-    if kind == 4 {
-        return skip_fields(s, first, two(s, at), levels);
-    }
-    skip_members(s, first, two(s, at), levels)
 }
 
-// So many fields, one behind the other.
+// So many fields, one behind the other, with so many bytes before each: a union's child has its id there, others nothing.
 #[cycle(skipping)]
-pub fn skip_fields(s: &[u8], at: usize, count: usize, levels: usize) -> usize
-    ensures { SkipsFields s.now at count levels result }
+pub fn skip_fields(s: &[u8], fields: Elements, before: usize, levels: usize) -> usize
+    ensures { SkipsRow s.now fields.at fields.count before levels result }
 {
-    let mut place = at;
-    let mut left = count;
-    while 0 < left {
-        place = skip_field(s, place, levels);
-        left -= 1;
-    }
-    place
-}
-
-// So many union children, each an id and a field.
-#[cycle(skipping)]
-pub fn skip_members(s: &[u8], at: usize, count: usize, levels: usize) -> usize
-    ensures { SkipsMembers s.now at count levels result }
-{
-    let mut place = at;
-    let mut left = count;
-    while 0 < left {
-        let field = ahead(s, place, 1);
+    let mut place = fields.at;
+    for _ in 0..fields.count {
+        let field = ahead(s, place, before);
         place = skip_field(s, field, levels);
-        left -= 1;
     }
     place
-}
-
-// The number of a sheet's columns and the place of the first, where the sheet stands at a place.
-#[derive(Clone, Copy)]
-pub struct Columns {
-    pub count: usize,
-    pub at: usize,
 }
 
 // The columns of a sheet.
-pub fn find_columns(s: &[u8], at: usize) -> Columns
+pub fn find_columns(s: &[u8], at: usize) -> Elements
     ensures { (x : Schema) → Stands s.now at (sheet_bytes x) → ColumnsAt s.now at x result.count result.at }
 {
     let map = byte(s, at);
     let metadata = ahead(s, at, 1);
-    let place = skip_metadata_if(s, metadata, map % 2 == 1);
-    if map / 2 % 2 == 1 {
-        return Columns {
-            count: two(s, place),
-            at: ahead(s, place, 2),
-        };
+    let place = skip_if(s, metadata, bit(map, 0), skip_metadata);
+    if bit(map, 1) {
+        return Elements::counted(s, place);
     }
-    Columns {
+    Elements {
         count: 0,
         at: place,
     }
@@ -297,36 +243,25 @@ pub fn find_columns(s: &[u8], at: usize) -> Columns
 pub fn skip_sheet(s: &[u8], at: usize) -> usize
     ensures { SkipsSheet s.now at result }
 {
-    let columns = find_columns(s, at);
-    let first = columns.at;
-    let count = columns.count;
-    skip_fields(s, first, count, Cursor::LEVELS)
+    skip_fields(s, find_columns(s, at), 0, Cursor::LEVELS)
 }
 
 // Copies what stands between two places of a sheet.
 pub fn put_part(w: &mut [u8], pos: usize, s: &[u8], from: usize, to: usize) -> usize
     ensures { (b : Bytes) → Stands s.now from b → to ≡ from + length b → Puts b w.old pos w.new result }
 {
-    if to < from {
+    let Some(part) = s.get(from..to) else {
         return pos;
-    }
-    if s.len() < to {
-        return pos;
-    }
-    buffer::put(w, pos, &s[from..to])
+    };
+    buffer::put(w, pos, part)
 }
 
 // Whether a type of this code holds fields of the column's own values.
+#[tactic(auto, unfolding(model::specs::Datatype::holds_fields))]
 pub fn holds_fields(code: usize) -> bool
     ensures { result ≡ holds_fields code }
 {
-    if code < LIST {
-        return false;
-    }
-    if code <= UNION {
-        return true;
-    }
-    code == MAP
+    matches!(code, LIST..=UNION | MAP)
 }
 
 // `DataType::is_nested`, for a type of at most so many levels that stands at a place. A Dictionary takes the verdict of its
@@ -334,7 +269,7 @@ pub fn holds_fields(code: usize) -> bool
 pub fn is_nested(s: &[u8], at: usize, levels: usize) -> bool
     ensures { TellsNested s.now at levels result }
 {
-    if levels <= 0 {
+    if levels == 0 {
         return false;
     }
     let code = byte(s, at);

@@ -14,7 +14,7 @@ unfolding normalize_answer
 returns-in-Next c =
     let whole = sheet_whole _ _ c.read_sheet.ensures (λ k. (c.type_inv.sheet k).fits) c.in-Next.is in
     call_settled _ _ _ _ c.lacks_room.ensures c.if-lacks_room.false
-    (settled_as _ _ whole.outcome (c.answer_normalized.ensures whole.schema whole.fits whole.bytes))
+    (settled_as _ _ whole.outcome (c.answer.ensures whole.schema whole.fits whole.bytes))
 
 pub returns-then-lacks_room : goal.returns-then-lacks_room
 returns-then-lacks_room c = call_short _ _ _ _ c.lacks_room.ensures c.if-lacks_room.true c.refused.ensures

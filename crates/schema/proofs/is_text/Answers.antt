@@ -1,14 +1,13 @@
 -- `is_text`: the length, then so many bytes.
 use native.Mathlib.Omega.{arith}
-use Prim.Native.Nat.{◌+◌, ◌-◌}
+use mathlib.Core.Logic.{inl, inr}
 use Rattle.schema.proofs.Names.{text_inside, text_compared}
 use Rattle.schema.proofs.is_text.Goals as goal
 
-pub overflow_sub-s : goal.overflow_sub-s
-overflow_sub-s c = omega (arith, c.ahead-body.ensures.0)
-
-pub returns-then-s-body : goal.returns-then-s-body
-returns-then-s-body c = λ t st. absurd (omega (arith, c.if-s-body.true, text_inside c.ahead-body.ensures c.two-n.ensures.0 t st))
+pub returns-in_default : goal.returns-in_default
+returns-in_default c = λ t st.
+    let inside = text_inside c.ahead-body.ensures c.two.ensures.0 t st in
+    elim c.in_default.ensures.lookup.0 [ inl h ↦ absurd (omega arith) | inr h ↦ absurd (omega arith) ]
 
 pub returns : goal.returns
-returns c = let b = c.ahead-body.result in let n = c.two-n.result in λ t st. text_compared c.ahead-body.ensures c.two-n.ensures.0 t st _ (b + n - b) c.same.ensures (omega arith)
+returns c = λ t st. text_compared c.ahead-body.ensures c.two.ensures.0 t st _ c.same.ensures c.in-Some.ensures.lookup.0.2 (omega arith)

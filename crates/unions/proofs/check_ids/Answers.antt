@@ -1,4 +1,5 @@
 -- `check_ids`: what is left of the ids and the fields is answered as the whole.
+use native.Mathlib.Omega.{arith}
 use Rattle.unions.proofs.Walk.{walk_begin, walk_more_ids, walk_stop, walk_next, walk_more_fields, walk_end}
 use Rattle.unions.proofs.check_ids.Goals as goal
 
@@ -16,8 +17,8 @@ pub loop-i-preserved : goal.loop-i-preserved
 loop-i-preserved c =
     walk_next _ _ c.loop-i.invariant c.loop-i-test.true c.if-fields-i.false c.check_id-checked.ensures.0 c.in-Valid.is c.check_id-checked.ensures.1
 
-pub returns-then-i-fields : goal.returns-then-i-fields
-returns-then-i-fields c = walk_more_fields _ _ c.loop-i.invariant c.loop-i-test.false c.if-i-fields.true
+pub returns-then-ids-fields : goal.returns-then-ids-fields
+returns-then-ids-fields c = walk_more_fields _ _ c.loop-i.invariant c.loop-i-test.false (omega arith)
 
 pub returns : goal.returns
-returns c = walk_end _ _ c.loop-i.invariant c.loop-i-test.false c.if-i-fields.false
+returns c = walk_end _ _ c.loop-i.invariant c.loop-i-test.false (omega arith)

@@ -7,10 +7,10 @@ use Rattle.unions.proofs.try_from_fields.Goals as goal
 
 pub returns : goal.returns
 returns c =
-    from_fields_accepted _ _ c.if-fields-gt-COUNT.false c.all_ids-ids.ensures (c.write_answer.ensures _)
+    rw (← c.from-fields.ensures) (from_fields_accepted _ _ c.if-fields-gt-COUNT.false c.all_ids-ids.ensures (c.write_answer.ensures _))
 
 pub returns-then-fields-gt-COUNT : goal.returns-then-fields-gt-COUNT
-returns-then-fields-gt-COUNT c = from_fields_refused _ _ c.if-fields-gt-COUNT.true c.refused.ensures
+returns-then-fields-gt-COUNT c = rw (← c.from-fields.ensures) (from_fields_refused _ _ c.if-fields-gt-COUNT.true c.refused.ensures)
 
 pub slice_bounds-write_answer-end : goal.slice_bounds-write_answer-end
 slice_bounds-write_answer-end c = sym (length-take-le _ _ (search rules))

@@ -4,8 +4,8 @@ use Rattle.unions.proofs.try_new.Goals as goal
 
 pub returns-in_default : goal.returns-in_default
 returns-in_default c =
-    new_refused _ _ _ c.check_ids-checked.ensures c.in_default.is c.up.ensures
+    rw (← c.from.ensures) (new_refused _ _ _ c.check_ids-checked.ensures c.in_default.is c.up.ensures)
 
 pub returns : goal.returns
 returns c =
-    new_accepted _ _ _ c.check_ids-checked.ensures c.in-Valid.is (c.write_answer.ensures _)
+    rw (← c.from.ensures) (new_accepted _ _ _ c.check_ids-checked.ensures c.in-Valid.is (c.write_answer.ensures _))

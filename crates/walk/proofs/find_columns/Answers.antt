@@ -2,8 +2,12 @@
 use Rattle.walk.proofs.Schemas.{columns_some, columns_none}
 use Rattle.walk.proofs.find_columns.Goals as goal
 
-pub returns-then-map-eq1 : goal.returns-then-map-eq1
-returns-then-map-eq1 c = columns_some c.byte-map.ensures.0 c.ahead-metadata.ensures c.skip_metadata_if-place.ensures c.if-map-eq1.true c.two.ensures.0 c.ahead.ensures
+pub returns-then-bit : goal.returns-then-bit
+returns-then-bit c =
+    let metadata = c.skip_if-place.ensures in
+    columns_some c.byte-map.ensures.0 c.ahead-metadata.ensures c.bit.ensures metadata.set metadata.unset c.bit-2.ensures c.if-bit.true c.counted.ensures.count c.counted.ensures.at
 
 pub returns : goal.returns
-returns c = columns_none c.byte-map.ensures.0 c.ahead-metadata.ensures c.skip_metadata_if-place.ensures c.if-map-eq1.false
+returns c =
+    let metadata = c.skip_if-place.ensures in
+    columns_none c.byte-map.ensures.0 c.ahead-metadata.ensures c.bit.ensures metadata.set metadata.unset c.bit-2.ensures c.if-bit.false

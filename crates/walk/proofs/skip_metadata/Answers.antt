@@ -4,4 +4,4 @@ use Rattle.model.specs.Sheet.{pair_bytes}
 use Rattle.walk.proofs.skip_metadata.Goals as goal
 
 pub returns : goal.returns
-returns c = λ m. list_skips pair_bytes c.ahead-first.ensures c.two.ensures.0 m (c.skip_pairs.ensures m)
+returns c = λ m. list_skips pair_bytes c.counted.ensures.at c.counted.ensures.count m (c.skip_pairs.ensures m)

@@ -4,8 +4,5 @@ use Rattle.model.specs.Sheet.{pair_bytes}
 use Rattle.walk.proofs.Turns.{Turns}
 use Rattle.walk.proofs.skip_pairs.Given as goal
 
-abbrev pub invariant-loop-left : goal.invariant-loop-left
-invariant-loop-left l = Turns {A = Bytes × Bytes} (λ p. Unit {0}) pair_bytes l.s l.at l.count l.place l.left
-
-abbrev pub decreases-loop-left : goal.decreases-loop-left
-decreases-loop-left l = l.left
+abbrev pub invariant-loop : goal.invariant-loop
+invariant-loop l = Turns {A = Bytes × Bytes} (λ p. Unit {0}) pair_bytes l.s l.fn.pairs.at l.fn.pairs.count l.place l.counter

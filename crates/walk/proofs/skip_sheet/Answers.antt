@@ -3,4 +3,4 @@ use Rattle.walk.proofs.Schemas.{sheet_skips}
 use Rattle.walk.proofs.skip_sheet.Goals as goal
 
 pub returns : goal.returns
-returns c = sheet_skips c.find_columns-columns.ensures c.skip_fields.ensures
+returns c = sheet_skips c.find_columns.ensures c.skip_fields.ensures
