@@ -4,11 +4,11 @@ use native.Mathlib.Omega.{arith}
 use mathlib.Core.Path.{◌≡◌, refl, sym, ap, ◌∙◌}
 use mathlib.Core.List.{List, [], ◌∷◌, ◌++◌, map, map-append}
 use mathlib.Core.Bool.{Bool}
-use lib.ListN.{length, take, drop, set, length-map, length-set}
+use lib.ListN.{length, take, drop, set, replicate, length-map, length-set, length-replicate}
 use lib.Seq.{length-take-le, take-suc-set, take_all}
 use native.Mathlib.Numerals.{add-one}
 use mir.Val.{bool_byte}
-use Rattle.model.specs.Numbers.{max_levels, max_sheet_bytes, answer_buffer_short}
+use Rattle.model.specs.Numbers.{max_levels}
 use Rattle.model.specs.Bytes.{Bytes, Every, flag}
 use Rattle.model.specs.Tree.{Head, DataType, Field, Schema}
 use Rattle.model.specs.Sheet.{each, head_bytes, type_bytes, field_bytes, column_bytes, sheet_bytes}
@@ -16,13 +16,15 @@ use Rattle.model.specs.WellFormed.{LaidOut, Fits}
 use Rattle.model.specs.Datatype.{is_nested}
 use Rattle.model.specs.Call.{acceptance}
 use Rattle.model.proofs.WellFormed.{columns_laid_out}
-use Rattle.buffer.specs.declared.Outcome.{Outcome}
-use Rattle.buffer.specs.Leaves.{leaves, refused_with, accepted_with}
-use Rattle.buffer.proofs.Ends.{acceptance_short, acceptance_written}
+use Rattle.std.specs.Prelude.{Result, Ok, Err}
+use Rattle.buffer.specs.declared.refusal.Refusal.{Refusal}
+use Rattle.buffer.specs.Refusals.{numbered}
+use Rattle.buffer.specs.Puts.{length_number, unless_refused}
+use Rattle.buffer.specs.Leaves.{leaves}
+use Rattle.buffer.proofs.Ends.{acceptance_refused, length_room, acceptance_written}
 use Rattle.buffer.proofs.Pasted.{pasted_zero}
 use Rattle.walk.specs.Stands.{Stands, Skips, ColumnsAt}
 use Rattle.walk.proofs.Standing.{whole_stands, stands_behind, skip_join}
-use Rattle.walk.proofs.Schemas.{columns_few}
 use Rattle.walk.proofs.Passed.{Passed, passed_begin, passed_again, passed_done}
 use Rattle.datatype.proofs.Calls.{bool_flag}
 
@@ -70,27 +72,31 @@ pub nested_done : {s : Bytes} {first count : ℕ} {answer : Bytes} {place i : �
 nested_done {s} {count = count} {answer = answer} {i = i} k h fs n w st =
     sym (take_all i answer (omega (arith, k.size))) ∙ passed_done Good column_bytes s k.passed h fs n w st
 
--- The ends: the columns are those of the schema whose sheet was read
+-- The ends: the columns are those of the schema whose sheet was read. f is the code's test of the answer's length
 
-module _ {s : Bytes} {n first : ℕ} (find : (x : Schema) → Stands s 0 (sheet_bytes x) → ColumnsAt s 0 x n first) (x : Schema) (e : s ≡ sheet_bytes x) (fits : Fits x) where
+pub nested_room : {n : ℕ} (answer : Bytes) {f : Result Unit Refusal} → numbered f ≡ unless_refused (length_number n (length answer)) → f ≡ Ok tt → n ≤ length answer
+nested_room {n} answer tested h =
+    let e = length-replicate {A = ℕ} n 0 in
+    let room = length_room (replicate n 0) [] answer (tested ∙ ap (λ n. unless_refused (length_number n (length answer))) (sym e)) h in
+    omega (arith, room, e)
+
+module _ {s : Bytes} {n first : ℕ} (find : (x : Schema) → Stands s 0 (sheet_bytes x) → ColumnsAt s 0 x n first) (x : Schema) (e : s ≡ sheet_bytes x) where
   columns : ColumnsAt s 0 x n first
   columns = find x (whole_stands s (sheet_bytes x) e)
 
   counted : length (map byte_of x.columns) ≡ n
   counted = length-map x.columns byte_of ∙ sym columns.count
 
-  few : length (map byte_of x.columns) ≤ max_sheet_bytes
-  few = omega (arith, counted, columns_few columns, ap length e, fits.size)
+  module _ (answer : Bytes) {f : Result Unit Refusal} (tested : numbered f ≡ unless_refused (length_number n (length answer))) where
+    pub nested_short : {r : Result ℕ Refusal} {y : Refusal} → f ≡ Err y → r ≡ Err y → (work : Bytes) → leaves r answer work ≡ acceptance (map byte_of x.columns) work answer
+    nested_short h k work =
+        acceptance_refused (map byte_of x.columns) work answer (tested ∙ ap (λ n. unless_refused (length_number n (length answer))) (sym counted)) h k
 
-  pub nested_short : {r : Outcome} (answer : Bytes) → r ≡ refused_with answer_buffer_short 0 → length answer < n → (work : Bytes) → leaves r answer work ≡ acceptance (map byte_of x.columns) work answer
-  nested_short answer h k work = acceptance_short (map byte_of x.columns) work answer h few (omega (arith, counted, k))
-
-  -- the bytes written stand over the answer's beginning
-  pub nested_accepted : {r : Outcome} (answer written : Bytes) → r ≡ accepted_with n → n ≤ length answer
-      → ((fs : List (Field max_levels)) → length fs ≡ length (take n answer) → Every Good fs → Stands s first (each column_bytes fs) → written ≡ map byte_of fs)
-      → (work : Bytes) → leaves r (written ++ drop n answer) work ≡ acceptance (map byte_of x.columns) work answer
-  nested_accepted answer written h k wrote work =
-      let w = wrote x.columns (sym columns.count ∙ sym (length-take-le n answer k)) (columns_laid_out x fits.well_formed) columns.stands in
-      acceptance_written (map byte_of x.columns) work answer (h ∙ ap accepted_with (sym counted))
-      (ap (λ b. b ++ drop n answer) w ∙ ap (λ n. map byte_of x.columns ++ drop n answer) (sym counted) ∙ sym (pasted_zero answer (map byte_of x.columns)))
-      few (omega (arith, counted, k))
+    -- the bytes written stand over the answer's beginning
+    pub nested_accepted : {written : Bytes} → Fits x → f ≡ Ok tt
+        → ((fs : List (Field max_levels)) → length fs ≡ length (take n answer) → Every Good fs → Stands s first (each column_bytes fs) → written ≡ map byte_of fs)
+        → (work : Bytes) → leaves (Ok n) (written ++ drop n answer) work ≡ acceptance (map byte_of x.columns) work answer
+    nested_accepted fits h wrote work =
+        let w = wrote x.columns (sym columns.count ∙ sym (length-take-le n answer (nested_room answer tested h))) (columns_laid_out x fits.well_formed) columns.stands in
+        acceptance_written (map byte_of x.columns) work answer (tested ∙ ap (λ n. unless_refused (length_number n (length answer))) (sym counted)) h (ap Ok (sym counted))
+        (ap (λ b. b ++ drop n answer) w ∙ ap (λ n. map byte_of x.columns ++ drop n answer) (sym counted) ∙ sym (pasted_zero answer (map byte_of x.columns)))

@@ -23,11 +23,11 @@ ghost use Rattle.walk.specs.Stands.{Stands, member_bytes};
 ghost use Rattle.datatype.specs.Answers.{match_of, TestedBy};
 ghost use Rattle.datatype.specs.Comparisons.{compare_child, compare_schema, compare_call};
 
-use buffer::Outcome;
+use buffer::Refusal;
 use compare::{Comparison, compare_field, compare_row, compare_type};
 use layout::ChildrenKind;
 use metadata::{contains_metadata, of_sheet};
-use sheet::{Cursor, Step};
+use sheet::Cursor;
 use walk::Elements;
 
 // Whether two types are equal, of at most so many levels.
@@ -128,39 +128,47 @@ fn answer_comparison(
     work: &mut [u8],
     answer: &mut [u8],
     how: Comparison,
-) -> Outcome
+) -> Result<usize, Refusal>
     ensures { leaves result answer.new work.new ≡ compare_call how sheet.now other.now work.old answer.old }
 {
-    if buffer::lacks_room_for_two(work.len(), sheet.len(), other.len()) {
-        return Outcome::refused(Outcome::WORK_BUFFER_SHORT, 0);
-    }
-    let read = sheet::read_two(sheet, other);
-    match read {
-        Step::Refused(number, place) => buffer::refuse(work, number, place),
-        Step::Next(end) => buffer::accept_byte(
-            work,
-            answer,
-            u8::from(compare_sheets(sheet, other, how)),
-        ),
+    buffer::work_fits_two(work.len(), sheet.len(), other.len())?;
+    match sheet::read_two(sheet, other) {
+        Err(refusal) => buffer::refuse(work, refusal),
+        Ok(_) => buffer::accept_byte(work, answer, u8::from(compare_sheets(sheet, other, how))),
     }
 }
 
 // `==` of `DataType`.
-pub fn equal(sheet: &[u8], other: &[u8], work: &mut [u8], answer: &mut [u8]) -> Outcome
+pub fn equal(
+    sheet: &[u8],
+    other: &[u8],
+    work: &mut [u8],
+    answer: &mut [u8],
+) -> Result<usize, Refusal>
     ensures { leaves result answer.new work.new ≡ equal_call sheet.now other.now work.old answer.old }
 {
     answer_comparison(sheet, other, work, answer, Comparison::Equal)
 }
 
 // `DataType::equals_datatype`.
-pub fn equals_datatype(sheet: &[u8], other: &[u8], work: &mut [u8], answer: &mut [u8]) -> Outcome
+pub fn equals_datatype(
+    sheet: &[u8],
+    other: &[u8],
+    work: &mut [u8],
+    answer: &mut [u8],
+) -> Result<usize, Refusal>
     ensures { leaves result answer.new work.new ≡ equals_datatype_call sheet.now other.now work.old answer.old }
 {
     answer_comparison(sheet, other, work, answer, Comparison::EqualsDatatype)
 }
 
 // `Schema::contains`.
-pub fn contains(sheet: &[u8], other: &[u8], work: &mut [u8], answer: &mut [u8]) -> Outcome
+pub fn contains(
+    sheet: &[u8],
+    other: &[u8],
+    work: &mut [u8],
+    answer: &mut [u8],
+) -> Result<usize, Refusal>
     ensures { leaves result answer.new work.new ≡ contains_call sheet.now other.now work.old answer.old }
 {
     answer_comparison(sheet, other, work, answer, Comparison::Contains)
@@ -179,27 +187,23 @@ fn write_nested(sheet: &[u8], at: usize, answer: &mut [u8])
 }
 
 // The columns of a sheet that was read: 31, or a byte for each.
-fn answer_nested(sheet: &[u8], answer: &mut [u8]) -> Outcome
+fn answer_nested(sheet: &[u8], answer: &mut [u8]) -> Result<usize, Refusal>
     ensures { (x : Schema) → Fits x → sheet.now ≡ sheet_bytes x → (work : Bytes) → leaves result answer.new work ≡ acceptance (map (λ f. flag 1 (is_nested max_levels f.data_type)) x.columns) work answer.old }
 {
     let columns = walk::find_columns(sheet, 0);
-    if answer.len() < columns.count {
-        return Outcome::refused(Outcome::ANSWER_BUFFER_SHORT, 0);
-    }
+    buffer::length_fits(columns.count, answer.len())?;
     write_nested(sheet, columns.at, &mut answer[..columns.count]);
-    Outcome::accepted(columns.count)
+    Ok(columns.count)
 }
 
 // `DataType::is_nested` of each column.
-pub fn is_nested(sheet: &[u8], work: &mut [u8], answer: &mut [u8]) -> Outcome
+pub fn is_nested(sheet: &[u8], work: &mut [u8], answer: &mut [u8]) -> Result<usize, Refusal>
     ensures { leaves result answer.new work.new ≡ is_nested_call sheet.now work.old answer.old }
 {
-    if buffer::lacks_room(work.len(), sheet.len()) {
-        return Outcome::refused(Outcome::WORK_BUFFER_SHORT, 0);
-    }
+    buffer::work_fits(work.len(), sheet.len())?;
     match sheet::read_sheet(sheet) {
-        Step::Refused(number, place) => buffer::refuse(work, number, place),
-        Step::Next(_) => {
+        Err(refusal) => buffer::refuse(work, refusal),
+        Ok(_) => {
             buffer::clear(work);
             answer_nested(sheet, answer)
         }

@@ -19,12 +19,11 @@ use Rattle.walk.proofs.Descents.{head_stands}
 use Rattle.table.specs.Held.{Held}
 use Rattle.table.specs.Table.{no_entry, more, SpellField, SpellRow}
 use Rattle.table.specs.Look.{Cut, FoundAt, NotFound, Finds}
-use Rattle.table.specs.Says.{Says}
+use Rattle.table.specs.Says.{Merged, Says}
 use Rattle.table.specs.Becomes.{Incoming}
 use Rattle.table.specs.Opened.{NewEntry}
 use Rattle.table.specs.declared.Found.{Found}
-use Rattle.table.specs.declared.Merged.{Merged}
-use Rattle.table.specs.declared.Merged.TheVariants.{Used, Clash}
+use Rattle.std.proofs.Common.{Ok, Err}
 use Rattle.table.proofs.Held.{held_length, held_stands, held_as}
 use Rattle.table.proofs.Entries.{SkipsEntries}
 use Rattle.table.proofs.Opening.{field_long}
@@ -119,8 +118,8 @@ module _ (parked : Bool) where
 
             out : (r : Merged) → Says (SpellField l s) (fa.this_room + 4 * length (field_bytes (type_bytes l) g)) (x ++ fa.before_bytes) (tail ++ z) w₁ r (merge_field parked (merge_type parked l) (is_null l) fa.this g)
                 → Says (Hinted l s row next) (k + 4 * length (field_bytes (type_bytes l) g)) x z w₁ r (by_name parked l fs g)
-            out (Clash c) t = model_is ∙ ap (λ m. m >>= λ h. done (fa.before ++ (h ∷ fa.after))) t
-            out (Used u) t =
+            out (Err c) t = model_is ∙ ap (λ m. m >>= λ h. done (fa.before ++ (h ∷ fa.after))) t
+            out (Ok u) t =
                 let kept = of_done (subst (Gives (λ h. h.head.name ≡ fa.this.head.name)) t.is (name_kept l fa.this g)) in
                 let st = held_stands t.held {p = place} (omega (arith, fa.stands, hx, n)) in
                 let behind = (skips l s t.room t.spelt t.value low t.spells).behind st in
@@ -161,11 +160,11 @@ module _ (parked : Bool) where
 
     pub put_absent : {end u : ℕ} {w₁ : Bytes} → found ≡ Found.Absent end → length w₁ ≡ length w
         → ((l : ℕ) (g : Field l) (x z : Bytes) → Incoming l s q g → Held w used x [] z → end ≡ length x → used + 8 ≤ length w → NewEntry l s g w₁ u x z)
-        → Puts parked levels s w used row hint q w₁ (Used u) row
+        → Puts parked levels s w used row hint q w₁ (Ok u) row
     put_absent {end} {u} {w₁} at_end_lem same insert = record { says = go }
       where
         go : (l : ℕ) (g : Field l) → l ≤ levels → Incoming l s q g → (x y z : Bytes) (k : ℕ) (fs : List (Field l)) → Held w used x y z → row ≡ length x → Hinted l s row hint k y fs
-            → length x + (k + 4 * length (field_bytes (type_bytes l) g)) + length z ≤ length w → Says (Hinted l s row row) (k + 4 * length (field_bytes (type_bytes l) g)) x z w₁ (Used u) (by_name parked l fs g)
+            → length x + (k + 4 * length (field_bytes (type_bytes l) g)) + length z ≤ length w → Says (Hinted l s row row) (k + 4 * length (field_bytes (type_bytes l) g)) x z w₁ (Ok u) (by_name parked l fs g)
         go l g low i x y z k fs held hx (sp, cut) room =
             let nf : NotFound l row y fs g.head.name end =
             subst (Finds l s row k y fs g.head.name) at_end_lem (find l k y fs g.head low sp (held_stands held hx) (head_stands l g i.stands) cut) in

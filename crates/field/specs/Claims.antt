@@ -13,7 +13,7 @@ use Rattle.table.specs.Held.{Held}
 use Rattle.table.specs.Table.{no_place, u24, open_struct, SpellField, SpellType, SpellRow}
 use Rattle.table.specs.Look.{Cut}
 use Rattle.table.specs.Becomes.{Incoming, IncomingType, IncomingFields, Becomes, Coded}
-use Rattle.table.specs.declared.Merged.{Merged}
+use Rattle.table.specs.Says.{Merged}
 
 -- a field into the entry at a place
 pub record MergesField (parked : Bool) (levels : ℕ) (s w : Bytes) (used place q : ℕ) (w' : Bytes) (r : Merged) : Type 0 where

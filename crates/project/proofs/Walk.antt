@@ -1,11 +1,10 @@
 -- The walk over the entries of an index list: what is answered to one entry, and the turns and the ends of the loop.
-use Prim.Native.Nat.{ℕ, zero, suc, ◌+◌, ◌-◌, ◌*◌, ◌/◌, ◌%◌, ◌≤◌, ◌<◌}
+use Prim.Native.Nat.{ℕ, zero, suc, ◌+◌, ◌*◌, ◌/◌, ◌%◌, ◌≤◌, ◌<◌}
 use native.Mathlib.Omega.{arith}
 use mathlib.Core.Path.{◌≡◌, refl, sym, ap, ◌∙◌}
 use mathlib.Core.List.{List, [], ◌∷◌, ◌++◌}
 use mathlib.Core.Bool.{Bool, true, false, not, ◌||◌, false≢true}
-use lib.ListN.{length, take, drop, get_or, set, length-set, length-take, length-drop, length-replicate}
-use lib.Seq.{length-take-le, take_at}
+use lib.ListN.{length, drop, get_or, set, length-set, length-replicate}
 use lib.Dec.{eqb, ltb}
 use borrow.Author.Tests.{ltb-true, lt-ltb, le-ltb}
 use Rattle.model.specs.Numbers.{max_levels, index_out_of_bounds, index_repeated, odd_list}
@@ -172,11 +171,3 @@ module _ (strict : Bool) (list : Bytes) where
             ap (λ k. checked_of (selected strict x.columns (entries (drop (2 * (e + 1)) list)) (i ∷ w.passed) k)) s
             ∙ sym (next_valid e _ _ _ _ (sym (verdict x n) ∙ g) ∙ made_checked (λ rest. select x.columns i ++ rest) _) ∙ left_same x n;
       }
-
--- The flags are the part of the work buffer behind the table, of as many bytes as there are columns
-
-pub flags_count : (w : Bytes) (count : ℕ) → 3 * count + 2 ≤ length w → count ≡ length (take (2 * count + 2 + count - (2 * count + 2)) (drop (2 * count + 2) w))
-flags_count w count h = omega (arith, length-take (2 * count + 2 + count - (2 * count + 2)) (drop (2 * count + 2) w), length-drop (2 * count + 2) w, h)
-
-pub table_stays : (w rest : Bytes) (count : ℕ) → 3 * count + 2 ≤ length w → take (2 * count + 2) (take (2 * count + 2) w ++ rest) ≡ take (2 * count + 2) w
-table_stays w rest count h = take_at (take (2 * count + 2) w) rest (2 * count + 2) (length-take-le (2 * count + 2) w (omega (arith, h)))

@@ -25,7 +25,7 @@ use Rattle.buffer.proofs.Ends.{leaves_refusal}
 use Rattle.walk.specs.Stands.{Stands, SkipsField, ColumnsAt}
 use Rattle.walk.proofs.Schemas.{sheet_columns}
 use Rattle.walk.proofs.Descents.{head_stands, name_stands, no_name, body_stands}
-use Rattle.walk.proofs.Passed.{Passed, Here, passed_begin, passed_again, passed_here, passed_done}
+use Rattle.walk.proofs.Passed.{Passed, Here, passed_again, passed_here, passed_done}
 use Rattle.std.specs.Prelude.{Option, Some, None}
 use Rattle.schema.specs.Answers.{match_of, Narrow}
 use Rattle.walk.proofs.Standing.{whole_stands, first_stands, two_stands, num_u16}
@@ -98,9 +98,6 @@ Finds s name first count r =
     (fs : List (Field max_levels)) → length fs ≡ count → Every Good fs → Stands s first (each column_bytes fs) → r ≡ match_of (position (has_name name) fs)
 
 module _ (s name : Bytes) where
-  pub searched_begin : (first count : ℕ) → Searched s name first count first 0
-  searched_begin first count = record { passed = passed_begin Good column_bytes s first count tt; bound = omega arith }
-
   module _ {first count place i : ℕ} (k : Searched s name first count place i) where
     module _ (h : i < count) {b : Bool} (v : Names s place name b) where
       verdict : (f : Field max_levels) → Stands s place (column_bytes f) → b ≡ has_name name f

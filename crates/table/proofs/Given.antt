@@ -1,11 +1,13 @@
 -- What a row of places gives, where it stands in the table: those places.
-use Prim.Native.Nat.{ℕ, ◌+◌, ◌≤◌, ◌<◌}
+use Prim.Native.Nat.{ℕ, ◌+◌, ◌*◌, ◌≤◌, ◌<◌}
 use native.Mathlib.Omega.{arith}
 use mathlib.Core.Logic.{◌⊎◌, inl, inr}
-use mathlib.Core.Path.{◌≡◌, refl, sym, subst, ◌∙◌}
+use mathlib.Core.Path.{◌≡◌, refl, sym, ap, subst, ◌∙◌}
 use mathlib.Core.List.{List, [], ◌∷◌}
 use lib.ListN.{length}
-use Rattle.std.specs.Iterator.{AlwaysYields}
+use Rattle.std.proofs.Common.{None}
+use Rattle.std.specs.Iterator.{AlwaysYields, Yields, YieldsThen}
+use Rattle.std.proofs.lemmas.Iterator.Consumers.{YieldsList-end}
 use Rattle.std.proofs.lemmas.Iterator.{YieldsList}
 use Rattle.model.specs.Bytes.{Bytes, Every}
 use Rattle.walk.specs.Stands.{Stands}
@@ -36,3 +38,14 @@ pub row_gives : (ps : List ℕ) {w : Bytes} {place : ℕ} {s : PlaceRow} → (s.
 row_gives ps {w} {place} {s} e g st = record {
   runs = gives ps s g (subst (λ (v : Bytes). Stands v s.at (places_bytes ps)) (sym e.0) (subst (λ (n : ℕ). Stands w n (places_bytes ps)) (sym e.1) st));
 }
+
+-- each place is three bytes further
+passes : (xs : List ℕ) (s t : PlaceRow) → Yields GivesPlace s xs t → t.at ≡ s.at + 3 * length xs
+passes [] s t e = omega (arith, ap (λ (r : PlaceRow). r.at) e)
+passes (x ∷ xs) s t (j, h, r) = omega (arith, passes xs j t r, h.1.3)
+
+-- where a row that gave all its places ends
+pub row_ends : (ps : List ℕ) {w : Bytes} {place : ℕ} (s u : PlaceRow) → (s.w.now ≡ w) × (s.at ≡ place) → Every (λ p. p < no_place) ps → Stands w place (places_bytes ps)
+    → (xs : List ℕ) → YieldsThen GivesPlace s xs None u → u.at ≡ place + 3 * length ps
+row_ends ps s u e g st xs (t, y, n) =
+    omega (arith, e.1, n.1.0, passes xs s t y, (YieldsList-end (row_gives ps e g st) xs t y None u refl n).1)

@@ -11,6 +11,6 @@ pub mod Types
 pub mod Opening
 pub mod Places
 pub mod Given
+pub mod TakingWhile
 pub mod Fits
-pub mod Sought
 pub mod Pouring

@@ -3,7 +3,7 @@ use Prim.Native.Nat.{ℕ}
 use mathlib.Core.Path.{◌≡◌}
 use Rattle.std.proofs.Common.{arith}
 use Rattle.std.proofs.lemmas.Grind.{common_steps}
-use Rattle.table.specs.Table.{raw, open_struct, open_list, kind_of}
+use Rattle.table.specs.Table.{raw, open_struct, open_list, open_union, kind_of}
 use Rattle.table.specs.declared.Kind.{Kind}
 use Rattle.table.specs.declared.Kind.TheVariants.{Raw, OpenStruct, OpenList, OpenUnion}
 
@@ -27,3 +27,7 @@ module _ {b : ℕ} {k : Kind} (e : k ≡ kind_of b) where
   pub not_list : (k ≡ OpenList → ⊥) → b ≡ open_list → ⊥
   unfolding kind_of
   not_list n h = n (grind (arith, common_steps, e, h))
+
+  pub not_union : (k ≡ OpenUnion → ⊥) → b ≡ open_union → ⊥
+  unfolding kind_of
+  not_union n h = n (grind (arith, common_steps, e, h))

@@ -18,14 +18,6 @@ ghost use Rattle.table.specs.Edits.{InsertsPlace};
 
 use datatype::metadata::{has_name, name_of};
 
-// What a merge into the table ends with: so many bytes are in use then, or the number of the clash. The definition `Says` gives for each what
-// it says of the model's merge.
-#[derive(Clone, Copy)]
-pub enum Merged {
-    Used(usize),
-    Clash(u8),
-}
-
 // The number of three bytes at a place, the lowest first. Bytes past the end are 0.
 #[tactic(auto, unfolding(crate::specs::Table::three))]
 pub fn three(w: &[u8], at: usize) -> usize

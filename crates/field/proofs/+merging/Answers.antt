@@ -16,7 +16,7 @@ pub merge_field-returns-in_default : goal.merge_field-returns-in_default
 merge_field-returns-in_default t c = let m = c.merge_metadata-got.ensures in (m.same_length, field_stopped _ c.orders_agree.ensures c.if-not-orders_agree.false m c.in_default.is)
 
 pub merge_field-returns : goal.merge_field-returns
-merge_field-returns t c = let m = c.merge_metadata-got.ensures in let r = c.merge_rest.ensures in (r.0 ∙ m.same_length, field_merged _ c.orders_agree.ensures c.if-not-orders_agree.false m c.in-Used.is r.1)
+merge_field-returns t c = let m = c.merge_metadata-got.ensures in let r = c.merge_rest.ensures in (r.0 ∙ m.same_length, field_merged _ c.orders_agree.ensures c.if-not-orders_agree.false m c.in-Ok.is r.1)
 
 pub merge_list-returns : goal.merge_list-returns
 merge_list-returns t c = let o = c.open_list-opened.ensures in let m = c.merge_field.ensures in (m.0 ∙ o.0, list_merged _ c.ahead-inner.ensures o.0 o.1 c.ahead.ensures m.1)
@@ -43,7 +43,7 @@ pub merge_struct-returns-in_default : goal.merge_struct-returns-in_default
 merge_struct-returns-in_default t c = let o = c.pour_own-got.ensures in (o.0, struct_stopped _ c.ahead-inner.ensures o.0 o.1 c.in_default.is)
 
 pub merge_struct-returns : goal.merge_struct-returns
-merge_struct-returns t c = let o = c.pour_own-got.ensures in let p = c.pour.ensures in (p.0 ∙ o.0, struct_merged _ c.ahead-inner.ensures o.0 o.1 c.in-Used.is c.ahead.ensures c.two-count.ensures.0 c.ahead-2.ensures p.1)
+merge_struct-returns t c = let o = c.pour_own-got.ensures in let p = c.pour.ensures in (p.0 ∙ o.0, struct_merged _ c.ahead-inner.ensures o.0 o.1 c.in-Ok.is c.ahead.ensures c.two-count.ensures.0 c.ahead-2.ensures p.1)
 
 pub merge_type-returns-then-mine-eq-NULL : goal.merge_type-returns-then-mine-eq-NULL
 merge_type-returns-then-mine-eq-NULL t c = let t = c.take_type.ensures in (t.0, type_taken _ c.code_at-mine.ensures c.byte-theirs.ensures.0 c.if-mine-eq-NULL.true t.1)
@@ -67,7 +67,7 @@ pub pour-loop-left-smaller : goal.pour-loop-left-smaller
 pour-loop-left-smaller t c = omega (arith, c.loop-left-test.true)
 
 pub pour-loop-left-preserved : goal.pour-loop-left-preserved
-pour-loop-left-preserved t c = pouring_again c.loop-left.invariant c.loop-left-test.true c.put-step.ensures c.in-Used.is c.skip_field-place.ensures
+pour-loop-left-preserved t c = pouring_again c.loop-left.invariant c.loop-left-test.true c.put-step.ensures c.in-Ok.is c.skip_field-place.ensures
 
 pub pour-returns : goal.pour-returns
 pour-returns t c = pouring_done c.loop-left.invariant c.loop-left-test.false

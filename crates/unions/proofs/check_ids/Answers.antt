@@ -7,7 +7,7 @@ pub loop-i-init : goal.loop-i-init
 loop-i-init c = walk_begin _ _
 
 pub returns-then-fields-i : goal.returns-then-fields-i
-returns-then-fields-i c = walk_more_ids _ _ c.loop-i.invariant c.loop-i-test.true c.if-fields-i.true
+returns-then-fields-i c = rw c.from.ensures (walk_more_ids _ _ c.loop-i.invariant c.loop-i-test.true c.if-fields-i.true)
 
 pub returns-in_default : goal.returns-in_default
 returns-in_default c =
@@ -15,10 +15,10 @@ returns-in_default c =
 
 pub loop-i-preserved : goal.loop-i-preserved
 loop-i-preserved c =
-    walk_next _ _ c.loop-i.invariant c.loop-i-test.true c.if-fields-i.false c.check_id-checked.ensures.0 c.in-Valid.is c.check_id-checked.ensures.1
+    walk_next _ _ c.loop-i.invariant c.loop-i-test.true c.if-fields-i.false c.check_id-checked.ensures.0 c.in-Ok.is c.check_id-checked.ensures.1
 
 pub returns-then-ids-fields : goal.returns-then-ids-fields
-returns-then-ids-fields c = walk_more_fields _ _ c.loop-i.invariant c.loop-i-test.false (omega arith)
+returns-then-ids-fields c = rw c.from-then-ids-fields.ensures (walk_more_fields _ _ c.loop-i.invariant c.loop-i-test.false (omega arith))
 
 pub returns : goal.returns
 returns c = walk_end _ _ c.loop-i.invariant c.loop-i-test.false (omega arith)
