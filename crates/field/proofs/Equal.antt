@@ -15,6 +15,7 @@ use Rattle.model.specs.WellFormed.{Whole}
 use Rattle.model.specs.Merge.{need}
 use Rattle.model.specs.Equal.{same_child, same_type}
 use Rattle.model.proofs.Whole.{leaf_empty, type_whole}
+use Rattle.buffer.specs.declared.refusal.Number.{Number}
 use Rattle.walk.specs.Stands.{Stands}
 use Rattle.walk.proofs.Parts.{Ahead}
 use Rattle.walk.proofs.Descents.{code_stands}
@@ -88,6 +89,6 @@ module _ {s w : Bytes} {used place m own t levels : ℕ} {b : Bool} (a : Ahead w
     };
   }
 
-  pub types_differ : b ≡ false → MergesEqual levels s w used place t w (Err type_clash)
+  pub types_differ : b ≡ false → MergesEqual levels s w used place t w (Err Number.TypeClash)
   unfolding need
   types_differ e = record { says = λ l first u code h n₁ n₂ n₃ f i x y z k d held hx p room. ap (λ v. need v type_clash d) (sym (verdict l first u d h n₁ n₂ n₃ f i held hx p) ∙ e) }

@@ -12,6 +12,7 @@ use Rattle.model.specs.Sheet.{front_bytes, dict_id_bytes, part, with_count, pair
 use Rattle.model.specs.Merge as model
 use Rattle.model.specs.Merge.{◌>>=◌, done, clash, need, merge_metadata, orders_agree, merge_field, merge_type, is_null}
 use Rattle.model.proofs.Modes.{merged_order_lem}
+use Rattle.buffer.specs.declared.refusal.Number.{Number}
 use Rattle.walk.specs.Stands.{Stands, Skips}
 use Rattle.walk.proofs.Descents.{head_stands, type_stands}
 use Rattle.table.specs.Held.{Held}
@@ -107,7 +108,7 @@ module _ (parked : Bool) where
         → b ≡ orders_agree parked (is_null l) f g
     agree l g sq {k} {y = y} {f = f} held hx e = o.says l k y f g e (held_stands held hx) sq
 
-    pub field_ordered : {levels : ℕ} → b ≡ false → MergesField parked levels s w used place q w (Err ordered_clash)
+    pub field_ordered : {levels : ℕ} → b ≡ false → MergesField parked levels s w used place q w (Err Number.OrderedClash)
     field_ordered n = record { says = λ l g low v x y z k f held hx e room. field_clash l f g (sym (agree l g v.stands held hx e) ∙ n) }
 
     module _ (same : b ≡ true) {w₁ : Bytes} {got : Merged} (mm : MergesMetadata s w used place q w₁ got) where
@@ -122,7 +123,7 @@ module _ (parked : Bool) where
       ordered_parts l g v {f = f} held hx e =
           field_parts l f g (sym (agree l g v.stands held hx e) ∙ same)
 
-      pub field_stopped : {levels n : ℕ} → got ≡ Err n → MergesField parked levels s w used place q w₁ got
+      pub field_stopped : {levels : ℕ} {n : Number} → got ≡ Err n → MergesField parked levels s w used place q w₁ got
       unfolding ◌>>=◌
       field_stopped {n = n} c = record {
         says = λ l g low v x y z k f held hx e room.

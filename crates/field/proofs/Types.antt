@@ -15,6 +15,7 @@ use Rattle.model.specs.Sheet.{type_bytes}
 use Rattle.model.specs.Merge.{◌>>=◌, done, clash, need, merge_each, merge_same_code, merge_type, is_null, pour}
 use Rattle.model.specs.Equal.{same_child, same_type}
 use Rattle.model.proofs.Gives.{choose_true, choose_false}
+use Rattle.buffer.specs.declared.refusal.Number.{Number}
 use Rattle.walk.specs.Stands.{Stands}
 use Rattle.walk.proofs.Descents.{code_stands}
 use Rattle.table.specs.Held.{Held}
@@ -123,7 +124,7 @@ module _ (parked : Bool) where
           }
 
       module _ (n : theirs ≡ 0 → ⊥) where
-        pub type_clash_lem : {levels : ℕ} → (mine ≡ theirs → ⊥) → MergesType parked levels s w used place t w (Err type_clash)
+        pub type_clash_lem : {levels : ℕ} → (mine ≡ theirs → ⊥) → MergesType parked levels s w used place t w (Err Number.TypeClash)
         type_clash_lem {levels} d = record { says = go }
           where
             go : (l : ℕ) (first u : DataType l) → l ≤ levels → IncomingType l s t u → (x y z : Bytes) (k : ℕ) (a : DataType l) → Held w used x y z → place ≡ length x → SpellType l s first k y a

@@ -17,6 +17,7 @@ ghost use Rattle.metadata.specs.Merges.{PutsPair, MergesPairs, Marks, OpensMetad
 use buffer::Number;
 use datatype::metadata::{of_head, same_stretch, same_text};
 use table::PlaceRow;
+use walk::Elements;
 
 // Whether the bytes from one place to another are below those between two other places.
 fn below_stretch(s: &[u8], a: usize, e: usize, b: usize, f: usize) -> bool
@@ -55,7 +56,14 @@ fn find_key(s: &[u8], w: &[u8], row: usize, q: usize) -> usize
 }
 
 // A pair of the train into the row of pairs that begins where its key belongs: before the first, or its key is that of the first.
-fn put_pair(s: &[u8], w: &mut [u8], used: usize, at: usize, q: usize, clash: Number) -> Result<usize, Number>
+fn put_pair(
+    s: &[u8],
+    w: &mut [u8],
+    used: usize,
+    at: usize,
+    q: usize,
+    clash: Number,
+) -> Result<usize, Number>
     ensures { PutsPair s.now w.old used at q (number_of clash) w.new result }
 {
     let there = table::three(w, at);
@@ -68,23 +76,22 @@ fn put_pair(s: &[u8], w: &mut [u8], used: usize, at: usize, q: usize, clash: Num
     Err(clash)
 }
 
-// So many pairs of the train, one behind the other, into a row of pairs: the loop over `from.metadata()`. They come in the order of their
+// Pairs of the train, one behind the other, into a row of pairs: the loop over `from.metadata()`. They come in the order of their
 // keys, so each belongs behind the one before it, where the search for it begins.
 pub fn merge_pairs(
     s: &[u8],
     w: &mut [u8],
     used: usize,
     at: usize,
-    q: usize,
-    count: usize,
+    pairs: Elements,
     clash: Number,
 ) -> Result<usize, Number>
-    ensures { MergesPairs s.now w.old used at q count (number_of clash) w.new result }
+    ensures { MergesPairs s.now w.old used at pairs.at pairs.count (number_of clash) w.new result }
 {
     let mut from = at;
-    let mut place = q;
+    let mut place = pairs.at;
     let mut end = used;
-    for _ in 0..count {
+    for _ in 0..pairs.count {
         from = find_key(s, w, from, place);
         let merged = put_pair(s, w, end, from, place, clash);
         let Ok(next) = merged else {
@@ -101,7 +108,8 @@ fn skip_name(s: &[u8], at: usize) -> usize
     ensures { (h : Head) → Stands s.now at (head_bytes h) → result ≡ at + 1 + length (part text_bytes h.name) }
 {
     let map = walk::byte(s, at);
-    walk::skip_text_if(s, walk::ahead(s, at, 1), map / 4 % 2 == 1)
+    let name = walk::ahead(s, at, 1);
+    walk::skip_if(s, name, walk::bit(map, 2), walk::skip_text)
 }
 
 // Whether two fields of the train have the same metadata.
@@ -144,32 +152,27 @@ fn open_metadata(s: &[u8], w: &mut [u8], used: usize, at: usize) -> usize
         return used;
     }
     let own = of_head(s, table::three(w, walk::ahead(w, at, 1)));
-    let first = own.at;
-    let count = own.count;
     let end = mark_opened(w, used, at, flags);
     let row = walk::ahead(w, at, 4);
-    merge_pairs(s, w, end, row, first, count, Number::FieldMetadataClash).unwrap_or(used)
+    merge_pairs(s, w, end, row, own, Number::FieldMetadataClash).unwrap_or(used)
 }
 
 // `Field::try_merge`, the metadata: an entry of the table, and a field of the train that comes in. What has no metadata, or the same as an
 // entry that nothing was merged into, changes nothing.
-pub fn merge_metadata(s: &[u8], w: &mut [u8], used: usize, at: usize, q: usize) -> Result<usize, Number>
+pub fn merge_metadata(
+    s: &[u8],
+    w: &mut [u8],
+    used: usize,
+    at: usize,
+    q: usize,
+) -> Result<usize, Number>
     ensures { MergesMetadata s.now w.old used at q w.new result }
 {
     let new = of_head(s, q);
-    let first = new.at;
-    let count = new.count;
-    if count == 0 || has_metadata(s, w, at, q) {
+    if new.count == 0 || has_metadata(s, w, at, q) {
         return Ok(used);
     }
     let end = open_metadata(s, w, used, at);
-    merge_pairs(
-        s,
-        w,
-        end,
-        walk::ahead(w, at, 4),
-        first,
-        count,
-        Number::FieldMetadataClash,
-    )
+    let row = walk::ahead(w, at, 4);
+    merge_pairs(s, w, end, row, new, Number::FieldMetadataClash)
 }

@@ -24,6 +24,10 @@ module _ {b : ℕ} {k : Kind} (e : k ≡ kind_of b) where
   unfolding kind_of
   is_union h = (grind (arith, common_steps, e, h), grind (arith, common_steps, e, h), grind (arith, common_steps, e, h))
 
+  pub not_struct : (k ≡ OpenStruct → ⊥) → b ≡ open_struct → ⊥
+  unfolding kind_of
+  not_struct n h = n (grind (arith, common_steps, e, h))
+
   pub not_list : (k ≡ OpenList → ⊥) → b ≡ open_list → ⊥
   unfolding kind_of
   not_list n h = n (grind (arith, common_steps, e, h))
