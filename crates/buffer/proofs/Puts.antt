@@ -5,17 +5,20 @@ use mathlib.Core.Path.{◌≡◌, refl, sym, ap, subst, ◌∙◌}
 use mathlib.Core.List.{[], ◌∷◌, ◌++◌}
 use mathlib.Core.Bool.{Bool, true, false}
 use lib.ListN.{length, length-append}
-use lib.Dec.{leb, ltb}
-use borrow.Author.Tests.{leb-true, leb-false, ltb-true, ltb-false}
-use Rattle.model.specs.Numbers.{max_sheet_bytes, accepted, answer_too_long, answer_buffer_short}
+use lib.Dec.{leb}
+use borrow.Author.Tests.{leb-true, leb-false, lt-ltb}
+use Rattle.model.proofs.Gives.{choose_true}
+use Rattle.model.specs.Numbers.{max_sheet_bytes}
 use Rattle.model.specs.Bytes.{Bytes, choose, u16}
 use Rattle.model.specs.Call.{acceptance}
-use Rattle.buffer.specs.declared.Outcome.{Outcome}
+use Rattle.std.specs.Prelude.{Result, Ok, Err}
+use Rattle.buffer.specs.declared.refusal.Refusal.{Refusal}
+use Rattle.buffer.specs.Refusals.{numbered}
 use Rattle.buffer.specs.Buffer.{pasted}
-use Rattle.buffer.specs.Puts.{Puts, length_number}
-use Rattle.buffer.specs.Leaves.{leaves, refused_with, accepted_with}
+use Rattle.buffer.specs.Puts.{Puts, length_number, unless_refused}
+use Rattle.buffer.specs.Leaves.{leaves}
 use Rattle.buffer.proofs.Pasted.{length_pasted, pasted_nil, pasted_join}
-use Rattle.buffer.proofs.Ends.{acceptance_long, acceptance_short, acceptance_written}
+use Rattle.buffer.proofs.Ends.{acceptance_refused, acceptance_written, length_room}
 
 module _ {w : Bytes} {p : ℕ} where
   -- nothing
@@ -84,49 +87,33 @@ puts_two n b {k} h f g =
     (λ i. let (e, small) = h (omega (arith, i)) in ap (λ t. t ++ b) (ap (λ k. k % 256 ∷ k / 256 % 256 ∷ []) e ∙ two_bytes_lem n small))
     (puts_join (k % 256 ∷ k / 256 % 256 ∷ []) b f g)
 
--- The end of a call: the bytes were put into some buffer from its start on, for their length n, and v is the number for such a length
+-- The end of a call: the bytes were put into some buffer from its start on, for their length n, and f is the test of such a length
 
-module _ (b : Bytes) {w w' : Bytes} {n : ℕ} (f : Puts b w 0 w' n) where
-  long_bytes : max_sheet_bytes < n → max_sheet_bytes < length b
-  long_bytes h = go (leb (length b) max_sheet_bytes) refl
+module _ (b : Bytes) {w w' : Bytes} {n : ℕ} (counted : Puts b w 0 w' n) where
+  -- a length beyond the longest answer has the same number as the bytes' own
+  same_number : (room : ℕ) → length_number n room ≡ length_number (length b) room
+  unfolding length_number choose
+  same_number room = go (leb (length b) max_sheet_bytes) refl
     where
-      go : (t : Bool) → leb (length b) max_sheet_bytes ≡ t → max_sheet_bytes < length b
-      go true e = let k = leb-true (length b) max_sheet_bytes e in absurd (omega (arith, h, k, f.inside (omega (arith, k))))
-      go false e = leb-false (length b) max_sheet_bytes e
+      go : (t : Bool) → leb (length b) max_sheet_bytes ≡ t → length_number n room ≡ length_number (length b) room
+      go true e =
+          let k : n ≡ length b = omega (arith, counted.inside (omega (arith, leb-true (length b) max_sheet_bytes e))) in
+          ap (λ n. length_number n room) k
+      go false e =
+          let k = leb-false (length b) max_sheet_bytes e in
+          choose_true _ _ _ (lt-ltb max_sheet_bytes n (counted.beyond (omega (arith, k)))) ∙ sym (choose_true _ _ _ (lt-ltb max_sheet_bytes (length b) k))
 
-  count_is : n ≤ max_sheet_bytes → n ≡ length b
-  count_is h = go (leb (length b) max_sheet_bytes) refl
-    where
-      go : (t : Bool) → leb (length b) max_sheet_bytes ≡ t → n ≡ length b
-      go true e = let k = leb-true (length b) max_sheet_bytes e in omega (arith, f.inside (omega (arith, k)))
-      go false e = let k = leb-false (length b) max_sheet_bytes e in absurd (omega (arith, h, f.beyond (omega (arith, k))))
+  own : (f : Result Unit Refusal) (room : ℕ) → numbered f ≡ unless_refused (length_number n room) → numbered f ≡ unless_refused (length_number (length b) room)
+  own f room t = t ∙ ap unless_refused (same_number room)
 
-  module _ (work answer : Bytes) {v : ℕ} (m : v ≡ length_number n (length answer)) where
-    pub put_refused : {r : Outcome} → (v ≡ accepted → ⊥) → r ≡ refused_with v 0 → leaves r answer work ≡ acceptance b work answer
-    unfolding length_number choose
-    put_refused {r} h e = go (ltb max_sheet_bytes n) refl (ltb (length answer) n) refl m
-      where
-        go : (t : Bool) → ltb max_sheet_bytes n ≡ t → (s : Bool) → ltb (length answer) n ≡ s → v ≡ choose t (λ u. answer_too_long) (λ u. choose s (λ u. answer_buffer_short) λ u. accepted)
-            → leaves r answer work ≡ acceptance b work answer
-        go true i s j m = acceptance_long b work answer (e ∙ ap (λ v. refused_with v 0) m) (long_bytes (ltb-true max_sheet_bytes n i))
-        go false i true j m =
-            let k = ltb-false max_sheet_bytes n i in
-            let l = count_is k in
-            acceptance_short b work answer (e ∙ ap (λ v. refused_with v 0) m) (omega (arith, k, l)) (omega (arith, ltb-true (length answer) n j, l))
-        go false i false j m = absurd (h m)
+  module _ (work answer : Bytes) {f : Result Unit Refusal} (tested : numbered f ≡ unless_refused (length_number n (length answer))) where
+    pub put_refused : {r : Result ℕ Refusal} {x : Refusal} → f ≡ Err x → r ≡ Err x → leaves r answer work ≡ acceptance b work answer
+    put_refused h e = acceptance_refused b work answer (own _ (length answer) tested) h e
 
     -- and then into the answer buffer
-    pub put_accepted : {r : Outcome} {after : Bytes} {q : ℕ} → v ≡ accepted → Puts b answer 0 after q → r ≡ accepted_with n → leaves r after work ≡ acceptance b work answer
-    unfolding length_number choose
-    put_accepted {r} {after} h g e = go (ltb max_sheet_bytes n) refl (ltb (length answer) n) refl (sym h ∙ m)
-      where
-        go : (t : Bool) → ltb max_sheet_bytes n ≡ t → (s : Bool) → ltb (length answer) n ≡ s → 0 ≡ choose t (λ u. answer_too_long) (λ u. choose s (λ u. answer_buffer_short) λ u. accepted)
-            → leaves r after work ≡ acceptance b work answer
-        go true i s j m = absurd (omega (arith, m))
-        go false i true j m = absurd (omega (arith, m))
-        go false i false j m =
-            let k = ltb-false max_sheet_bytes n i in
-            let l = count_is k in
-            let small : length b ≤ max_sheet_bytes = omega (arith, k, l) in
-            let room : length b ≤ length answer = omega (arith, ltb-false (length answer) n j, l) in
-            acceptance_written b work answer (e ∙ ap accepted_with l) (g.written (omega (arith, small)) (omega (arith, room))) small room
+    pub put_accepted : {r : Result ℕ Refusal} {after : Bytes} {q : ℕ} → f ≡ Ok tt → Puts b answer 0 after q → r ≡ Ok n → leaves r after work ≡ acceptance b work answer
+    put_accepted h g e =
+        let t = own _ (length answer) tested in
+        let room = length_room b work answer t h in
+        let k : n ≡ length b = omega (arith, counted.inside (omega (arith, room.0))) in
+        acceptance_written b work answer t h (e ∙ ap Ok k) (g.written (omega (arith, room.0)) (omega (arith, room.1)))

@@ -5,13 +5,18 @@
 // such buffers: what it makes, it owns.
 #![tactic(auto)]
 
-ghost use Rattle.std.specs.Prelude.{◌≡◌, [], ◌∷◌, ◌+◌, ◌*◌, ◌/◌, ◌%◌, ◌≤◌, ◌<◌, length, ltb};
+mod refusal;
+
+ghost use Rattle.std.specs.Prelude.{◌≡◌, [], ◌∷◌, ◌+◌, ◌*◌, ◌/◌, ◌%◌, ◌≤◌, ◌<◌, length, ltb, Ok, Err};
 ghost use Rattle.model.specs.Numbers.{work_bytes_per_sheet_byte};
 ghost use Rattle.model.specs.Bytes.{Bytes, u16};
 ghost use Rattle.model.specs.Call.{zeros, acceptance};
 ghost use Rattle.buffer.specs.Buffer.{pasted};
-ghost use Rattle.buffer.specs.Puts.{Puts, length_number};
-ghost use Rattle.buffer.specs.Leaves.{leaves, refused_with, accepted_with};
+ghost use Rattle.buffer.specs.Refusals.{numbered};
+ghost use Rattle.buffer.specs.Puts.{Puts, length_number, unless_short, unless_refused};
+ghost use Rattle.buffer.specs.Leaves.{leaves, outcome_of};
+
+pub use refusal::{Number, Refusal};
 
 // "work buffer below 4 times the sheet bytes given"
 pub const WORK_BYTES_PER_SHEET_BYTE: usize = 4;
@@ -19,15 +24,8 @@ pub const WORK_BYTES_PER_SHEET_BYTE: usize = 4;
 // "answer above 65,535 bytes": an answer is no longer than a sheet may be
 pub const MAX_ANSWER_BYTES: usize = 65535;
 
-// A byte as a number of places.
-pub fn wide(x: u8) -> usize
-    ensures { (result ≡ x) × (result < 256) }
-{
-    x as usize
-}
-
-// What every call gives: the number, its place, and how many bytes of the answer buffer are the answer.
-#[derive(Clone, Copy)]
+// What every call gives over C: the number, its place, and how many bytes of the answer buffer are the answer.
+#[derive(Clone, Copy, Debug, PartialEq, Eq)]
 pub struct Outcome {
     pub number: u8,
     pub place: usize,
@@ -36,31 +34,24 @@ pub struct Outcome {
 
 impl Outcome {
     pub const ACCEPTED: u8 = 0;
+}
 
-    pub const ANSWER_TOO_LONG: u8 = 30;
+// A call answers the length of its answer, or its refusal.
+impl From<Result<usize, Refusal>> for Outcome {
+    ghost from_gives = { λ answered outcome. outcome ≡ outcome_of answered };
 
-    pub const ANSWER_BUFFER_SHORT: u8 = 31;
-
-    pub const WORK_BUFFER_SHORT: u8 = 32;
-
-    // A refusal with both buffers left alone: what a call ends with at 32.
-    pub fn refused(number: u8, place: usize) -> Self
-        ensures { result ≡ refused_with number place }
-    {
-        Self {
-            number,
-            place,
-            length: 0,
-        }
-    }
-
-    pub fn accepted(written: usize) -> Self
-        ensures { result ≡ accepted_with written }
-    {
-        Self {
-            number: Self::ACCEPTED,
-            place: 0,
-            length: written,
+    fn from(answered: Result<usize, Refusal>) -> Self {
+        match answered {
+            Ok(length) => Self {
+                number: Self::ACCEPTED,
+                place: 0,
+                length,
+            },
+            Err(Refusal(number, place)) => Self {
+                number: u8::from(number),
+                place,
+                length: 0,
+            },
         }
     }
 }
@@ -69,11 +60,7 @@ impl Outcome {
 pub fn clear(w: &mut [u8])
     ensures { w.new ≡ zeros (length w.old) }
 {
-    let mut i = 0;
-    while i < w.len() {
-        w[i] = 0;
-        i += 1;
-    }
+    w.fill(0);
 }
 
 // Writes src over dst from index at.
@@ -81,27 +68,22 @@ pub fn copy_in(dst: &mut [u8], at: usize, src: &[u8])
     requires { at + length src.now ≤ length dst.old }
     ensures { dst.new ≡ pasted dst.old at src.now }
 {
-    let mut i = 0;
-    while i < src.len() {
-        dst[at + i] = src[i];
-        i += 1;
-    }
+    dst[at..at + src.len()].copy_from_slice(src);
 }
 
-pub fn put_byte(dst: &mut [u8], at: usize, v: u8)
-    requires { at < length dst.old }
-    ensures { dst.new ≡ pasted dst.old at (v ∷ []) }
+// The two lower bytes of a number, the lower one first.
+fn two_bytes(v: usize) -> [u8; 2]
+    ensures { result ≡ v % 256 ∷ v / 256 % 256 ∷ [] }
 {
-    dst[at] = v;
+    ((v % 65536) as u16).to_le_bytes()
 }
 
-// The two bytes of a number below 65,536, the lower one first. They compile to one store.
+// The two bytes of a number below 65,536. They compile to one store.
 pub fn put_u16(dst: &mut [u8], at: usize, v: usize)
     requires { (at + 2 ≤ length dst.old) × (v < 65536) }
     ensures { dst.new ≡ pasted dst.old at (u16 v) }
 {
-    put_byte(dst, at, (v % 256) as u8);
-    put_byte(dst, at + 1, (v / 256) as u8);
+    copy_in(dst, at, &two_bytes(v));
 }
 
 // Writes bytes from a position on where they fit, and gives the position behind them either way; a position above MAX_ANSWER_BYTES says
@@ -128,74 +110,67 @@ pub fn put(dst: &mut [u8], at: usize, src: &[u8]) -> usize
 pub fn put_one(dst: &mut [u8], at: usize, b: u8) -> usize
     ensures { Puts (b ∷ []) dst.old at dst.new result }
 {
-    let byte = [b];
-    put(dst, at, &byte)
+    put(dst, at, &[b])
 }
 
 // The two lower bytes of a number. A count above 65,535 stands in no accepted answer, since its elements pass the longest one.
 pub fn put_two(dst: &mut [u8], at: usize, v: usize) -> usize
     ensures { Puts (v % 256 ∷ v / 256 % 256 ∷ []) dst.old at dst.new result }
 {
-    let pair = [(v % 256) as u8, (v / 256 % 256) as u8];
-    put(dst, at, &pair)
+    put(dst, at, &two_bytes(v))
 }
 
-// Whether a call ends with 32: a work buffer of `work` bytes for `given` sheet bytes. The product might not fit, so the quotient is compared.
-pub fn lacks_room(work: usize, given: usize) -> bool
-    ensures { result ≡ ltb work (work_bytes_per_sheet_byte * given) }
+// 32, unless a work buffer of `work` bytes is enough for `given` sheet bytes. The product might not fit, so the quotient is compared.
+pub fn work_fits(work: usize, given: usize) -> Result<(), Refusal>
+    ensures { result ≡ unless_short (ltb work (work_bytes_per_sheet_byte * given)) }
 {
-    work / WORK_BYTES_PER_SHEET_BYTE < given
+    if work / WORK_BYTES_PER_SHEET_BYTE < given {
+        return Err(Refusal::from(Number::WorkBufferShort));
+    }
+    Ok(())
 }
 
 // The same for two sheets, whose sum might not fit either: there has to be room for the first, and in what that leaves for the second.
-pub fn lacks_room_for_two(work: usize, one: usize, other: usize) -> bool
-    ensures { result ≡ ltb work (work_bytes_per_sheet_byte * (one + other)) }
+pub fn work_fits_two(work: usize, one: usize, other: usize) -> Result<(), Refusal>
+    ensures { result ≡ unless_short (ltb work (work_bytes_per_sheet_byte * (one + other))) }
 {
-    if lacks_room(work, one) {
-        return true;
+    work_fits(work, one)?;
+    work_fits(work - WORK_BYTES_PER_SHEET_BYTE * one, other)
+}
+
+// 30 or 31, unless an answer of `written` bytes is no longer than the longest one and fits a buffer of `room`.
+pub fn length_fits(written: usize, room: usize) -> Result<(), Refusal>
+    ensures { numbered result ≡ unless_refused (length_number written room) }
+{
+    if MAX_ANSWER_BYTES < written {
+        return Err(Refusal::from(Number::AnswerTooLong));
     }
-    lacks_room(work - WORK_BYTES_PER_SHEET_BYTE * one, other)
+    if room < written {
+        return Err(Refusal::from(Number::AnswerBufferShort));
+    }
+    Ok(())
 }
 
 // 30, 31, or the bytes at the answer buffer's start. It holds whatever the work buffer has, so it also ends the calls that have none, and
 // those whose answer lies in the work buffer, which they clear next.
-#[tactic(auto, using(crate::proofs::Ends::acceptance_long))]
-pub fn write_answer(answer: &mut [u8], bytes: &[u8]) -> Outcome
+pub fn write_answer(answer: &mut [u8], bytes: &[u8]) -> Result<usize, Refusal>
     ensures { (work : Bytes) → leaves result answer.new work ≡ acceptance bytes.now work answer.old }
 {
-    if MAX_ANSWER_BYTES < bytes.len() {
-        return Outcome::refused(Outcome::ANSWER_TOO_LONG, 0);
-    }
-    if answer.len() < bytes.len() {
-        return Outcome::refused(Outcome::ANSWER_BUFFER_SHORT, 0);
-    }
+    length_fits(bytes.len(), answer.len())?;
     copy_in(answer, 0, bytes);
-    Outcome::accepted(bytes.len())
-}
-
-// The number that a call ends with whose answer has so many bytes, in a buffer of so many.
-pub fn length_number(written: usize, room: usize) -> u8
-    ensures { result ≡ length_number written room }
-{
-    if MAX_ANSWER_BYTES < written {
-        return Outcome::ANSWER_TOO_LONG;
-    }
-    if room < written {
-        return Outcome::ANSWER_BUFFER_SHORT;
-    }
-    Outcome::ACCEPTED
+    Ok(bytes.len())
 }
 
 // The end of a call with a refusal after 32: the work buffer is cleared.
-pub fn refuse(work: &mut [u8], number: u8, place: usize) -> Outcome
-    ensures { (result ≡ refused_with number place) × (work.new ≡ zeros (length work.old)) }
+pub fn refuse(work: &mut [u8], refusal: Refusal) -> Result<usize, Refusal>
+    ensures { (result ≡ Err refusal) × (work.new ≡ zeros (length work.old)) }
 {
     clear(work);
-    Outcome::refused(number, place)
+    Err(refusal)
 }
 
 // The end of a call with an answer, which lies ready in a slice: 30, 31, or acceptance, and the work buffer is cleared.
-pub fn accept(work: &mut [u8], answer: &mut [u8], bytes: &[u8]) -> Outcome
+pub fn accept(work: &mut [u8], answer: &mut [u8], bytes: &[u8]) -> Result<usize, Refusal>
     ensures { leaves result answer.new work.new ≡ acceptance bytes.now (zeros (length work.old)) answer.old }
 {
     clear(work);
@@ -203,17 +178,15 @@ pub fn accept(work: &mut [u8], answer: &mut [u8], bytes: &[u8]) -> Outcome
 }
 
 // "one byte, 1 for yes and 0 for no"
-pub fn accept_byte(work: &mut [u8], answer: &mut [u8], b: u8) -> Outcome
+pub fn accept_byte(work: &mut [u8], answer: &mut [u8], b: u8) -> Result<usize, Refusal>
     ensures { leaves result answer.new work.new ≡ acceptance (b ∷ []) (zeros (length work.old)) answer.old }
 {
-    let one = [b];
-    accept(work, answer, &one)
+    accept(work, answer, &[b])
 }
 
 // "`index_of` writes a u16." Of a larger number the call says nothing: that a number is that small is known of a sheet that was read.
-pub fn accept_u16(work: &mut [u8], answer: &mut [u8], v: usize) -> Outcome
+pub fn accept_u16(work: &mut [u8], answer: &mut [u8], v: usize) -> Result<usize, Refusal>
     ensures { v < 65536 → leaves result answer.new work.new ≡ acceptance (u16 v) (zeros (length work.old)) answer.old }
 {
-    let two = [(v % 256) as u8, (v / 256 % 256) as u8];
-    accept(work, answer, &two)
+    accept(work, answer, &two_bytes(v))
 }

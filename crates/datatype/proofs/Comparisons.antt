@@ -164,13 +164,3 @@ module _ (l : ℕ) (x y : DataType (suc l)) where
 
       pub children_decide : compare_children how l x.code x.children y.children ≡ compare_type how (suc l) x y
       children_decide = rest_children how (by_rest Equal e p) ∙ sym (by_rest how e p)
-
--- Containment below a type: RunEndEncoded, and the others
-
-pub below_equal : {how : Comparison} {code : ℕ} → how ≡ Contains → code ≡ RunEndEncoded → Equal ≡ below how code
-unfolding below choose
-below_equal {how} {code} h e = sym (ap (λ how. below how code) h ∙ ap (λ b. choose b (λ u. Equal) λ u. Contains) (eq-eqb code RunEndEncoded e))
-
-pub below_contains : {how : Comparison} {code : ℕ} → how ≡ Contains → (code ≡ RunEndEncoded → ⊥) → Contains ≡ below how code
-unfolding below choose
-below_contains {how} {code} h e = sym (ap (λ how. below how code) h ∙ ap (λ b. choose b (λ u. Equal) λ u. Contains) (ne_eqb code RunEndEncoded e))

@@ -3,13 +3,13 @@ use Prim.Native.Nat.{◌+◌, ◌*◌, ◌/◌, ◌%◌}
 use native.Mathlib.Omega.{arith}
 use mathlib.Core.Path.{◌≡◌, refl, sym, ap, ◌∙◌}
 use mathlib.Core.List.{◌++◌}
-use mathlib.Core.Bool.{Bool, true, false, ◌&&◌, beq}
+use mathlib.Core.Bool.{Bool, true, false, not, ◌&&◌, beq, false≢true}
 use Rattle.model.specs.Bytes.{Bytes, same_bytes, flag}
 use Rattle.model.specs.Tree.{Head}
 use Rattle.model.specs.Sheet.{head_map, part, stands, with_count, text_bytes, pair_bytes}
 use Rattle.model.specs.Equal.{same_metadata}
 use Rattle.model.proofs.Lists.{and_true, beq_eq}
-use Rattle.model.proofs.MapBits.{flag_one, quarters, nullable_bit}
+use Rattle.model.proofs.MapBits.{flag_one, quarters}
 use Rattle.model.proofs.ByteStrings.{same_bytes_eq, same_bytes_refl}
 use Rattle.model.proofs.Equivalences.{metadata_equivalence}
 use Rattle.model.proofs.SameBytes.{by_truth, not_true, name_split, part_equal, metadata_same_eq}
@@ -30,6 +30,16 @@ beq_of true true e = refl
 beq_of true false e = sym e
 beq_of false true e = e
 beq_of false false e = refl
+
+-- what a test of two flags says
+pub equal : (a b : Bool) → not (beq a b) ≡ false → a ≡ b
+equal true true h = refl
+equal true false h = absurd (false≢true (sym h))
+equal false true h = absurd (false≢true (sym h))
+equal false false h = refl
+
+pub unequal : (a b : Bool) → not (beq a b) ≡ true → a ≡ b → ⊥
+unequal a b h e = false≢true (sym (ap not (beq_of a b e)) ∙ h)
 
 -- the bits of name and metadata
 high_form : (h : Head) → head_map h / 4 % 4 ≡ flag 1 (stands h.name) + 2 * flag 1 (stands h.metadata)
@@ -63,21 +73,21 @@ module _ (h g : Head) where
       ∙ ap (λ z. same_metadata h.metadata z) (sym m) ∙ metadata_equivalence.self h.metadata
 
   -- the maps differ in the lowest bit
-  pub heads_low : (head_map h % 2 ≡ head_map g % 2 → ⊥) → false ≡ same_head h g
-  heads_low f = not_true _ λ e. f (nullable_bit h ∙ ap (flag 1) (head_facts e).1 ∙ sym (nullable_bit g))
+  pub heads_low : (h.nullable ≡ g.nullable → ⊥) → false ≡ same_head h g
+  heads_low f = not_true _ λ e. f (head_facts e).1
 
   -- the maps differ in the bits of name and metadata
   pub heads_high : (head_map h / 4 % 4 ≡ head_map g / 4 % 4 → ⊥) → false ≡ same_head h g
   heads_high f = not_true _ λ e. f (high_of (head_facts e).0 (head_facts e).2)
 
   -- else the bytes behind the maps decide
-  pub heads_rest : head_map h % 2 ≡ head_map g % 2 → head_map h / 4 % 4 ≡ head_map g / 4 % 4 → same_bytes (rest_of h) (rest_of g) ≡ same_head h g
+  pub heads_rest : h.nullable ≡ g.nullable → head_map h / 4 % 4 ≡ head_map g / 4 % 4 → same_bytes (rest_of h) (rest_of g) ≡ same_head h g
   heads_rest e f =
       by_truth _ _
       (λ t.
       let (p, q) = high f in
       let (n, r) = name_split h.name g.name _ _ p (same_bytes_eq (rest_of h) (rest_of g) t) in
-      head_same n (flag_equal _ _ (sym (nullable_bit h) ∙ e ∙ nullable_bit g)) (part_equal h.metadata g.metadata q r))
+      head_same n e (part_equal h.metadata g.metadata q r))
       λ t.
       let (n, b, m) = head_facts t in
       ap (λ z. same_bytes (rest_of h) z)

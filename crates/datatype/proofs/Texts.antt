@@ -1,23 +1,24 @@
 -- Stretches of bytes, texts, names and metadata, where they stand.
-use Prim.Native.Nat.{ℕ, ◌+◌, ◌-◌, ◌/◌, ◌%◌, ◌<◌, ◌≤◌}
+use Prim.Native.Nat.{ℕ, ◌+◌, ◌-◌, ◌<◌, ◌≤◌}
 use native.Mathlib.Omega.{arith}
 use mathlib.Core.Path.{◌≡◌, refl, sym, ap, ◌∙◌}
 use mathlib.Core.List.{[], ◌∷◌, ◌++◌, append_assoc}
-use mathlib.Core.Bool.{Bool, true, false, ◌&&◌, false≢true}
+use mathlib.Core.Bool.{Bool, true, false, not, ◌&&◌, false≢true}
 use lib.ListN.{length, take, drop, get_or, length-append, take-append-drop}
 use lib.Dec.{eqb}
-use borrow.Author.Tests.{eq-eqb, ne_eqb}
-use Rattle.model.specs.Bytes.{Bytes, Metadata, choose, all, same, same_bytes, get_is, flag, u16}
+use lib.Seq.{take-append_seam}
+use borrow.Author.Tests.{eq-eqb, eqb-true}
+use Rattle.model.specs.Bytes.{Bytes, Metadata, choose, all, same, same_bytes, get_is, bit, u16}
 use Rattle.model.specs.Tree.{Head, Schema}
 use Rattle.model.specs.Sheet.{head_map, front_bytes, each, part, stands, with_count, text_bytes, pair_bytes, head_bytes, sheet_bytes}
 use Rattle.model.specs.Datatype.{contains_metadata}
 use Rattle.model.proofs.ByteStrings.{same_bytes_eq, same_bytes_refl}
 use Rattle.model.proofs.SameBytes.{by_truth, not_true, name_split}
 use Rattle.model.proofs.Lists.{every_unit}
-use Rattle.model.proofs.MapBits.{name_bit, name_set, metadata_set}
+use Rattle.model.proofs.MapBits.{name_set, metadata_set}
 use Rattle.walk.specs.Stands.{Stands, Skips}
 use Rattle.walk.proofs.Standing.{first_stands, byte_stands, stands_behind, taken, skip_ahead, skip_join, skip_self}
-use Rattle.walk.proofs.Parts.{Ahead, two_at, front_stands, map_stands, sheet_metadata_bit}
+use Rattle.walk.proofs.Parts.{Ahead, two_at, part_if, front_stands, map_stands, sheet_metadata_set}
 use Rattle.walk.proofs.Descents.{count_stands, elements_stand}
 use Rattle.datatype.specs.Comparisons.{PairsAt}
 use Rattle.datatype.proofs.Encodings.{rest_of}
@@ -26,9 +27,6 @@ use Rattle.datatype.proofs.Seeks.{Seeks, seeks_begin, seeks_again, seeks_stop, s
 -- what `same_stretch` ensures
 abbrev pub Stretches : Bytes → ℕ → ℕ → Bytes → ℕ → ℕ → Bool → Type 0
 Stretches s a e t b f r = (x y : Bytes) → Stands s a x → Stands t b y → e ≡ a + length x → f ≡ b + length y → r ≡ same_bytes x y
-
-pub stretches_taken : {s t : Bytes} {a e b f : ℕ} {r : Bool} → r ≡ same_bytes (take (e - a) (drop a s)) (take (f - b) (drop b t)) → Stretches s a e t b f r
-stretches_taken {t = t} {b = b} {f = f} g x y p q h k = g ∙ ap (λ z. same_bytes z (take (f - b) (drop b t))) (taken p h) ∙ ap (same_bytes x) (taken q k)
 
 -- where some bytes stand before others, those others reach from behind the first to the end of both
 pub behind_first : {s : Bytes} {place first r : ℕ} (a b : Bytes) → Skips s place a first → Skips s place (a ++ b) r → Stands s place (a ++ b) → r ≡ first + length b
@@ -67,120 +65,32 @@ unfolding front_bytes
 rest_stands u h st = stands_behind (skip_ahead (head_map h ∷ []) refl u.1) (front_stands h st)
 
 -- the bit of the name
-name_bit_is : {s : Bytes} {a map : ℕ} → map ≡ get_or s a 0 → (h : Head) → Stands s a (head_bytes h) → map / 4 % 2 ≡ flag 1 (stands h.name)
-name_bit_is e h st = ap (λ m. m / 4 % 2) (map_stands e h st) ∙ name_bit h
+name_bit_is : {s : Bytes} {a map : ℕ} {n : Bool} → map ≡ get_or s a 0 → n ≡ bit 2 map → (h : Head) → Stands s a (head_bytes h) → n ≡ stands h.name
+unfolding bit
+name_bit_is e i h st = i ∙ ap (bit 2) (map_stands e h st) ∙ name_set h
 
-module _ {s t : Bytes} {a b map other : ℕ} (e : map ≡ get_or s a 0) (f : other ≡ get_or t b 0) where
-  pub names_bits : (map / 4 % 2 ≡ other / 4 % 2 → ⊥) → Heads same_name s a t b false
-  names_bits d h g st st' = not_true _ λ i. d (name_bit_is e h st ∙ ap (λ n. flag 1 (stands n)) (same_bytes_eq h.name g.name i) ∙ sym (name_bit_is f g st'))
+module _ {s t : Bytes} {a b map other : ℕ} {n m : Bool} (e : map ≡ get_or s a 0) (i : n ≡ bit 2 map) (f : other ≡ get_or t b 0) (j : m ≡ bit 2 other) where
+  pub names_bits : (n ≡ m → ⊥) → Heads same_name s a t b false
+  names_bits d h g st st' = not_true _ λ k. d (name_bit_is e i h st ∙ ap stands (same_bytes_eq h.name g.name k) ∙ sym (name_bit_is f j g st'))
 
-  module _ (i : map / 4 % 2 ≡ other / 4 % 2) where
-    pub names_none : map / 4 % 2 ≡ 0 → Heads same_name s a t b true
+  module _ (q : n ≡ m) where
+    pub names_none : n ≡ false → Heads same_name s a t b true
     unfolding same
-    names_none z h g st st' = go h.name g.name (name_bit_is e h st) (name_bit_is f g st')
+    names_none z h g st st' = go h.name g.name (sym (name_bit_is e i h st) ∙ z) (sym (name_bit_is f j g st') ∙ sym q ∙ z)
       where
-        go : (x y : Bytes) → map / 4 % 2 ≡ flag 1 (stands x) → other / 4 % 2 ≡ flag 1 (stands y) → true ≡ same_bytes x y
-        go [] [] m n = refl
-        go [] (d ∷ y) m n = absurd (omega (arith, i, z, n))
-        go (c ∷ x) y m n = absurd (omega (arith, m, z))
+        go : (x y : Bytes) → stands x ≡ false → stands y ≡ false → true ≡ same_bytes x y
+        go [] [] k l = refl
+        go [] (d ∷ y) k l = absurd (false≢true (sym l))
+        go (c ∷ x) y k l = absurd (false≢true (sym k))
 
-    pub names_texts : {p q : ℕ} {r : Bool} → (map / 4 % 2 ≡ 0 → ⊥) → Ahead s a 1 p → Ahead t b 1 q → Texts s p t q r → Heads same_name s a t b r
-    names_texts {p} {q} {r} z u v c h g st st' = go h.name g.name (name_bit_is e h st) (name_bit_is f g st') (rest_stands u h st) (rest_stands v g st')
+    pub names_texts : {p o : ℕ} {r : Bool} → n ≡ true → Ahead s a 1 p → Ahead t b 1 o → Texts s p t o r → Heads same_name s a t b r
+    names_texts {p} {o} {r} z u v c h g st st' = go h.name g.name (sym (name_bit_is e i h st) ∙ z) (sym (name_bit_is f j g st') ∙ sym q ∙ z) (rest_stands u h st) (rest_stands v g st')
       where
-        go : (x y : Bytes) → map / 4 % 2 ≡ flag 1 (stands x) → other / 4 % 2 ≡ flag 1 (stands y)
-            → Stands s p (part text_bytes x ++ part (with_count pair_bytes) h.metadata) → Stands t q (part text_bytes y ++ part (with_count pair_bytes) g.metadata) → r ≡ same_bytes x y
-        go [] y m n w w' = absurd (z m)
-        go (d ∷ x) [] m n w w' = absurd (z (i ∙ n))
+        go : (x y : Bytes) → stands x ≡ true → stands y ≡ true
+            → Stands s p (part text_bytes x ++ part (with_count pair_bytes) h.metadata) → Stands t o (part text_bytes y ++ part (with_count pair_bytes) g.metadata) → r ≡ same_bytes x y
+        go [] y k l w w' = absurd (false≢true k)
+        go (d ∷ x) [] k l w w' = absurd (false≢true l)
         go (d ∷ x) (k ∷ y) m n w w' = c (d ∷ x) (k ∷ y) (first_stands (text_bytes (d ∷ x)) _ w) (first_stands (text_bytes (k ∷ y)) _ w')
-
--- A name with its length, as a head has it
-
--- what `name_of` gives
-abbrev pub NameOf : Bytes → ℕ → Bytes → Type 0
-NameOf s a r = (h : Head) → Stands s a (head_bytes h) → r ≡ part text_bytes h.name
-
-module _ {s : Bytes} {a map from end : ℕ} (e : map ≡ get_or s a 0) (u : Ahead s a 1 from)
-    (p : (x : Bytes) → stands x ≡ eqb (map / 4 % 2) 1 → Skips s from (part text_bytes x) end) where
-  name_ends : (h : Head) → Stands s a (head_bytes h) → (end ≡ from + length (part text_bytes h.name)) × Stands s from (part text_bytes h.name)
-  name_ends h st =
-      let w = first_stands (part text_bytes h.name) _ (rest_stands u h st) in
-      let b = ap (λ m. eqb (m / 4 % 2) 1) (map_stands e h st) ∙ name_set h in
-      ((p h.name (sym b)).behind w, w)
-
-  pub name_before : {r : Bytes} → end < from → NameOf s a r
-  name_before k h st = absurd (omega (arith, k, (name_ends h st).0))
-
-  pub name_past : {r : Bytes} → length s < end → NameOf s a r
-  name_past k h st = let (i, w) = name_ends h st in absurd (omega (arith, k, i, w.inside))
-
-  pub name_taken : NameOf s a (take (end - from) (drop from s))
-  name_taken h st = let (i, w) = name_ends h st in taken w i
-
--- what `has_name` ensures
-abbrev pub HasName : Bytes → ℕ → Bytes → Bool → Type 0
-HasName s a name r = (h : Head) (n : Bytes) → Stands s a (head_bytes h) → name ≡ part text_bytes n → r ≡ same_bytes h.name n
-
-both_named : (bit : ℕ) (name : Bytes) → (length name ≡ 0 → ⊥) → (bit ≡ 0 → ⊥) → (x n : Bytes) → bit ≡ flag 1 (stands x) → name ≡ part text_bytes n → stands x ≡ stands n
-both_named bit name k z [] n b i = absurd (z b)
-both_named bit name k z (c ∷ x) [] b i = absurd (k (ap length i))
-both_named bit name k z (c ∷ x) (d ∷ n) b i = refl
-
-module _ {s : Bytes} {a : ℕ} {name : Bytes} where
-  -- there is no room for the name
-  pub name_long : length s ≤ a + length name → HasName s a name false
-  unfolding front_bytes
-  name_long k h n st i =
-      not_true _ λ j. omega (
-        arith,
-        k,
-        (front_stands h st).inside,
-        ap length i,
-        ap (λ z. length (part text_bytes z)) (same_bytes_eq h.name n j),
-        length-append (part text_bytes h.name) (part (with_count pair_bytes) h.metadata),
-      )
-
-  module _ {map : ℕ} (e : map ≡ get_or s a 0) where
-    pub name_empty : length name ≡ 0 → HasName s a name (eqb (map / 4 % 2) 0)
-    unfolding same text_bytes u16
-    name_empty z h n st i = go h.name n (name_bit_is e h st) (ap length i)
-      where
-        go : (x n : Bytes) → map / 4 % 2 ≡ flag 1 (stands x) → length name ≡ length (part text_bytes n) → eqb (map / 4 % 2) 0 ≡ same_bytes x n
-        go x (d ∷ n) b i = absurd (omega (arith, z, i))
-        go [] [] b i = eq-eqb (map / 4 % 2) 0 b
-        go (c ∷ x) [] b i = ne_eqb (map / 4 % 2) 0 λ j. omega (arith, j, b)
-
-    module _ (k : length name ≡ 0 → ⊥) where
-      pub name_missing : map / 4 % 2 ≡ 0 → HasName s a name false
-      unfolding same
-      name_missing z h n st i = go h.name n (name_bit_is e h st) i
-        where
-          go : (x n : Bytes) → map / 4 % 2 ≡ flag 1 (stands x) → name ≡ part text_bytes n → false ≡ same_bytes x n
-          go [] [] b i = absurd (k (ap length i))
-          go [] (d ∷ n) b i = refl
-          go (c ∷ x) n b i = absurd (omega (arith, z, b))
-
-      -- the name and what follows it begin with the other name just if the two are equal
-      pub name_compared : (end : ℕ) {r : Bool} → (map / 4 % 2 ≡ 0 → ⊥) → a + 1 + length name ≡ end → end ≤ length s → r ≡ same_bytes (take (end - (a + 1)) (drop (a + 1) s)) name → HasName s a name r
-      name_compared end {r} z j l v h n st i = v ∙ by_truth (same_bytes T name) (same_bytes h.name n) there back
-        where
-          T : Bytes
-          T = take (end - (a + 1)) (drop (a + 1) s)
-
-          rest : Stands s (a + 1) (rest_of h)
-          rest = rest_stands (omega arith, λ y. refl) h st
-
-          there : same_bytes T name ≡ true → same_bytes h.name n ≡ true
-          there q =
-              let split = name_split h.name n _ (drop (end - (a + 1)) (drop (a + 1) s)) (both_named (map / 4 % 2) name k z h.name n (name_bit_is e h st) i)
-              (sym (append_assoc (part text_bytes h.name) _ _) ∙ sym rest.bytes ∙ sym (take-append-drop (end - (a + 1)) (drop (a + 1) s))
-              ∙ ap (λ z. z ++ drop (end - (a + 1)) (drop (a + 1) s)) (same_bytes_eq T name q ∙ i)) in
-              ap (λ z. same_bytes z n) split.0 ∙ same_bytes_refl n
-
-          back : same_bytes h.name n ≡ true → same_bytes T name ≡ true
-          back q =
-              let o : name ≡ part text_bytes h.name = i ∙ ap (part text_bytes) (sym (same_bytes_eq h.name n q)) in
-              let w = first_stands (part text_bytes h.name) _ rest in
-              ap (λ z. same_bytes z name) (taken w (sym j ∙ ap (λ z. a + 1 + length z) o) ∙ sym o) ∙ same_bytes_refl name
 
 -- Metadata under a bit
 
@@ -197,19 +107,98 @@ module _ {s : Bytes} {place : ℕ} where
   pairs_none e [] h st = record { count = refl; stands = st }
   pairs_none e (p ∷ m) h st = absurd (false≢true (sym e ∙ sym h))
 
-pub head_pairs : {s : Bytes} {place map name first n at : ℕ} → map ≡ get_or s place 0 → Ahead s place 1 name
-    → ((x : Bytes) → stands x ≡ eqb (map / 4 % 2) 1 → Skips s name (part text_bytes x) first) → PairsIf s first (eqb (map / 8 % 2) 1) n at
-    → (h : Head) → Stands s place (head_bytes h) → PairsAt s h.metadata n at
-head_pairs {map = map} e u p q h st =
-    let w = map_stands e h st in
-    q h.metadata (sym (ap (λ m. eqb (m / 8 % 2) 1) w ∙ metadata_set h))
-    (stands_behind (p h.name (sym (ap (λ m. eqb (m / 4 % 2) 1) w ∙ name_set h))) (rest_stands u h st))
+-- A name with its length, as a head has it
 
-pub sheet_pairs : {s : Bytes} {place map first n at : ℕ} → map ≡ get_or s place 0 → Ahead s place 1 first → PairsIf s first (eqb (map % 2) 1) n at
+module _ {s : Bytes} {a map from end : ℕ} {n : Bool} (e : map ≡ get_or s a 0) (u : Ahead s a 1 from) (i : n ≡ bit 2 map)
+    (f : n ≡ true → (x : Bytes) → Skips s from (text_bytes x) end) (g : n ≡ false → end ≡ from) where
+  name_skips : (h : Head) → Stands s a (head_bytes h) → Skips s from (part text_bytes h.name) end
+  name_skips h st = part_if text_bytes n f g h.name (sym (name_bit_is e i h st))
+
+  -- the name lies inside, between the two places
+  pub name_taken : (h : Head) → Stands s a (head_bytes h) → (from ≤ end) × (end ≤ length s) × (take (end - from) (drop from s) ≡ part text_bytes h.name)
+  name_taken h st =
+      let w = first_stands (part text_bytes h.name) _ (rest_stands u h st) in
+      let k = (name_skips h st).behind w in
+      (omega (arith, k), omega (arith, k, w.inside), taken w k)
+
+  -- the metadata stands behind it
+  pub head_pairs : {m : Bool} {count at : ℕ} → m ≡ bit 3 map → PairsIf s end m count at → (h : Head) → Stands s a (head_bytes h) → PairsAt s h.metadata count at
+  unfolding bit
+  head_pairs j q h st = q h.metadata (sym (j ∙ ap (bit 3) (map_stands e h st) ∙ metadata_set h)) (stands_behind (name_skips h st) (rest_stands u h st))
+
+-- what `has_name` ensures
+abbrev pub HasName : Bytes → ℕ → Bytes → Bool → Type 0
+HasName s a name r = (h : Head) (n : Bytes) → Stands s a (head_bytes h) → name ≡ part text_bytes n → r ≡ same_bytes h.name n
+
+some_name : (name : Bytes) → false ≡ eqb (length name) 0 → length name ≡ 0 → ⊥
+some_name name k z = false≢true (k ∙ eq-eqb (length name) 0 z)
+
+both_named : (name : Bytes) → (length name ≡ 0 → ⊥) → (x n : Bytes) → stands x ≡ true → name ≡ part text_bytes n → stands x ≡ stands n
+both_named name k x [] b i = absurd (k (ap length i))
+both_named name k x (d ∷ n) b i = b
+
+module _ {s : Bytes} {a map : ℕ} {name : Bytes} {named : Bool} (e : map ≡ get_or s a 0) (b : named ≡ bit 2 map) where
+  pub name_empty : true ≡ eqb (length name) 0 → HasName s a name (not named)
+  unfolding same text_bytes u16
+  name_empty z h n st i = go h.name n (name_bit_is e b h st) (ap length i)
+    where
+      go : (x n : Bytes) → named ≡ stands x → length name ≡ length (part text_bytes n) → not named ≡ same_bytes x n
+      go x (d ∷ n) b i = absurd (omega (arith, eqb-true (length name) 0 (sym z), i))
+      go [] [] b i = ap not b
+      go (c ∷ x) [] b i = ap not b
+
+  module _ (k : false ≡ eqb (length name) 0) where
+    pub name_missing : named ≡ false → HasName s a name false
+    unfolding same
+    name_missing z h n st i = go h.name n (sym (name_bit_is e b h st) ∙ z) i
+      where
+        go : (x n : Bytes) → stands x ≡ false → name ≡ part text_bytes n → false ≡ same_bytes x n
+        go [] [] b i = absurd (some_name name k (ap length i))
+        go [] (d ∷ n) b i = refl
+        go (c ∷ x) n b i = absurd (false≢true (sym b))
+
+    module _ {from : ℕ} (u : Ahead s a 1 from) (z : named ≡ true) where
+      -- there is no room for the name
+      pub name_long : length s < from + length name → HasName s a name false
+      name_long l h n st i =
+          let rest = rest_stands u h st in
+          not_true _ λ j. omega (
+            arith,
+            l,
+            rest.inside,
+            ap length i,
+            ap (λ z. length (part text_bytes z)) (same_bytes_eq h.name n j),
+            length-append (part text_bytes h.name) (part (with_count pair_bytes) h.metadata),
+          )
+
+      -- the name and what follows it begin with the other name just if the two are equal
+      pub name_compared : {own : Bytes} {r : Bool} → r ≡ same_bytes own name → own ≡ take (length name) (drop from s) → HasName s a name r
+      name_compared {own} v o h n st i = v ∙ by_truth (same_bytes own name) (same_bytes h.name n) there back
+        where
+          rest : Stands s from (rest_of h)
+          rest = rest_stands u h st
+
+          there : same_bytes own name ≡ true → same_bytes h.name n ≡ true
+          there q =
+              let split = name_split h.name n _ (drop (length name) (drop from s)) (both_named name (some_name name k) h.name n (sym (name_bit_is e b h st) ∙ z) i)
+              (sym (append_assoc (part text_bytes h.name) _ _) ∙ sym rest.bytes ∙ sym (take-append-drop (length name) (drop from s))
+              ∙ ap (λ z. z ++ drop (length name) (drop from s)) (sym o ∙ same_bytes_eq own name q ∙ i)) in
+              ap (λ z. same_bytes z n) split.0 ∙ same_bytes_refl n
+
+          back : same_bytes h.name n ≡ true → same_bytes own name ≡ true
+          back q =
+              let p : name ≡ part text_bytes h.name = i ∙ ap (part text_bytes) (sym (same_bytes_eq h.name n q)) in
+              let w = first_stands (part text_bytes h.name) _ rest in
+              let t = ap (λ z. take (length z) (drop from s)) p ∙ ap (take (length (part text_bytes h.name))) w.bytes ∙ take-append_seam (part text_bytes h.name) _ in
+              ap (λ z. same_bytes z name) (o ∙ t ∙ sym p) ∙ same_bytes_refl name
+
+-- The metadata of a sheet
+
+pub sheet_pairs : {s : Bytes} {place map first n at : ℕ} {m : Bool} → map ≡ get_or s place 0 → Ahead s place 1 first → m ≡ bit 0 map → PairsIf s first m n at
     → (x : Schema) → Stands s place (sheet_bytes x) → PairsAt s x.metadata n at
 unfolding sheet_bytes
-sheet_pairs e u q x st =
-    q x.metadata (sym (ap (λ m. eqb (m % 2) 1) (e ∙ byte_stands st) ∙ sheet_metadata_bit (stands x.metadata) (stands x.columns)))
+sheet_pairs e u i q x st =
+    q x.metadata (sym (i ∙ ap (bit 0) (e ∙ byte_stands st) ∙ sheet_metadata_set (stands x.metadata) (stands x.columns)))
     (first_stands (part (with_count pair_bytes) x.metadata) _ (stands_behind (skip_ahead (_ ∷ []) refl u.1) st))
 
 -- Look-up by key
@@ -231,27 +220,27 @@ value_stands : {s : Bytes} {place value : ℕ} (p : Bytes × Bytes) → Text' s 
 unfolding pair_bytes
 value_stands p f st = stands_behind (f p.0) st
 
--- the pairs of which a key with a value is asked: those left decide
-abbrev pub Gets : (s t : Bytes) (key first count place left : ℕ) → Type 0
-Gets s t key first count place left = (p : Bytes × Bytes) → Stands t key (pair_bytes p)
-    → Seeks Any pair_bytes s (λ m. get_is m p.0 p.1) (λ m. get_is m p.0 p.1) first count place left
+-- the pairs of which a key with a value is asked: those behind the i passed decide
+abbrev pub Gets : (s t : Bytes) (key first count place i : ℕ) → Type 0
+Gets s t key first count place i = (p : Bytes × Bytes) → Stands t key (pair_bytes p)
+    → Seeks Any pair_bytes s (λ m. get_is m p.0 p.1) (λ m. get_is m p.0 p.1) first count place i
 
 -- what `get_is` ensures
 abbrev pub Got : (s t : Bytes) (key first count : ℕ) → Bool → Type 0
 Got s t key first count r = (p : Bytes × Bytes) (m : Metadata) → length m ≡ count → Stands t key (pair_bytes p) → Stands s first (each pair_bytes m) → r ≡ get_is m p.0 p.1
 
 module _ (s t : Bytes) where
-  pub gets_begin : (key first count : ℕ) → Gets s t key first count first count
+  pub gets_begin : (key first count : ℕ) → Gets s t key first count first 0
   gets_begin key first count p st = seeks_begin Any pair_bytes s _ first count
 
-  module _ {key first count place left : ℕ} (k : Gets s t key first count place left) where
-    pub gets_again : {own r : ℕ} {b : Bool} → 0 < left → Texts s place t key b → b ≡ false → Text' s place own → Text' s own r → Gets s t key first count r (left - 1)
+  module _ {key first count place i : ℕ} (k : Gets s t key first count place i) where
+    pub gets_again : {own r : ℕ} {b : Bool} → i < count → Texts s place t key b → b ≡ false → Text' s place own → Text' s own r → Gets s t key first count r (i + 1)
     unfolding get_is choose
     gets_again h c e f g p st =
         seeks_again Any pair_bytes s (k p st) h (λ q w. pair_skips f g q) λ q m w st'.
         ap (λ x. choose x (λ u. same_bytes q.1 p.1) (λ u. get_is m p.0 p.1)) (sym (c q.0 p.0 (key_stands q st') (key_stands p st)) ∙ e)
 
-    pub gets_found : {own value : ℕ} {b r : Bool} → 0 < left → Texts s place t key b → b ≡ true → Text' s place own → Text' t key value → Texts s own t value r → Got s t key first count r
+    pub gets_found : {own value : ℕ} {b r : Bool} → i < count → Texts s place t key b → b ≡ true → Text' s place own → Text' t key value → Texts s own t value r → Got s t key first count r
     unfolding get_is choose
     gets_found h c e f g d p m n st st' =
         seeks_stop Any pair_bytes s (k p st) h
@@ -260,26 +249,26 @@ module _ (s t : Bytes) where
         ∙ sym (ap (λ x. choose x (λ u. same_bytes q.1 p.1) (λ u. get_is ps p.0 p.1)) (sym (c q.0 p.0 (key_stands q u) (key_stands p st)) ∙ e)))
         m n (every_unit m) st'
 
-    pub gets_none : left ≤ 0 → Got s t key first count false
+    pub gets_none : count ≤ i → Got s t key first count false
     unfolding get_is
     gets_none h p m n st st' = seeks_done Any pair_bytes s (k p st) h refl m n (every_unit m) st'
 
 -- Metadata that contains other metadata
 
--- the pairs asked that are left decide, whatever metadata stands in the first sheet
-abbrev pub Asks : (s : Bytes) (count at : ℕ) (t : Bytes) (first asked place left : ℕ) → Type 0
-Asks s count at t first asked place left = (m : Metadata) → PairsAt s m count at → Seeks Any pair_bytes t (contains_metadata m) (contains_metadata m) first asked place left
+-- the pairs asked behind the i passed decide, whatever metadata stands in the first sheet
+abbrev pub Asks : (s : Bytes) (count at : ℕ) (t : Bytes) (first asked place i : ℕ) → Type 0
+Asks s count at t first asked place i = (m : Metadata) → PairsAt s m count at → Seeks Any pair_bytes t (contains_metadata m) (contains_metadata m) first asked place i
 
 -- what `contains_metadata` ensures
 abbrev pub Contained : (s : Bytes) (count at : ℕ) (t : Bytes) (asked first : ℕ) → Bool → Type 0
 Contained s count at t asked first r = (m other : Metadata) → PairsAt s m count at → PairsAt t other asked first → r ≡ contains_metadata m other
 
 module _ (s t : Bytes) where
-  pub asks_begin : (count at first asked : ℕ) → Asks s count at t first asked first asked
+  pub asks_begin : (count at first asked : ℕ) → Asks s count at t first asked first 0
   asks_begin count at first asked m w = seeks_begin Any pair_bytes t _ first asked
 
-  module _ {count at first asked place left : ℕ} (k : Asks s count at t first asked place left) (h : 0 < left) {b : Bool} (c : Got s t place at count b) where
-    pub asks_again : {value r : ℕ} → b ≡ true → Text' t place value → Text' t value r → Asks s count at t first asked r (left - 1)
+  module _ {count at first asked place i : ℕ} (k : Asks s count at t first asked place i) (h : i < asked) {b : Bool} (c : Got s t place at count b) where
+    pub asks_again : {value r : ℕ} → b ≡ true → Text' t place value → Text' t value r → Asks s count at t first asked r (i + 1)
     unfolding contains_metadata all
     asks_again e f g m w =
         seeks_again Any pair_bytes t (k m w) h (λ q v. pair_skips f g q) λ q qs v st.
@@ -291,6 +280,6 @@ module _ (s t : Bytes) where
         seeks_stop Any pair_bytes t (k m w) h (λ q qs v st. ap (λ x. x && contains_metadata m qs) (sym e ∙ c q m w.count st w.stands))
         other w'.count (every_unit other) w'.stands
 
-  pub asks_done : {count at first asked place left : ℕ} → Asks s count at t first asked place left → left ≤ 0 → Contained s count at t asked first true
+  pub asks_done : {count at first asked place i : ℕ} → Asks s count at t first asked place i → asked ≤ i → Contained s count at t asked first true
   unfolding contains_metadata all
   asks_done k h m other w w' = seeks_done Any pair_bytes t (k m w) h refl other w'.count (every_unit other) w'.stands

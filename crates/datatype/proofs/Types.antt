@@ -1,9 +1,10 @@
 -- Two types, the columns of two sheets, and two sheets.
-use Prim.Native.Nat.{ℕ, zero, suc, ◌+◌, ◌-◌, ◌≤◌}
+use Prim.Native.Nat.{ℕ, zero, suc, ◌+◌, ◌-◌}
 use native.Mathlib.Omega.{arith}
 use mathlib.Core.Path.{◌≡◌, refl, sym, ap, ap₂, subst, ◌∙◌}
 use mathlib.Core.List.{[], ◌∷◌}
 use mathlib.Core.Bool.{Bool, true, false, ◌&&◌}
+use mathlib.Core.Logic.{◌⊎◌, inl, inr}
 use lib.ListN.{length, get_or}
 use lib.Dec.{eqb}
 use Rattle.model.specs.Bytes.{Bytes, Metadata, Every, choose, same, all, same_bytes}
@@ -14,7 +15,8 @@ use Rattle.model.specs.WellFormed.{WellFormedParams, CountFits, Whole, Child}
 use Rattle.model.specs.Equal.{same_columns}
 use Rattle.model.specs.Datatype.{equals_columns, contains_metadata, contains_schema}
 use Rattle.model.proofs.Whole.{leaf_empty}
-use Rattle.layout.specs.Kinds.{children_by}
+use Rattle.layout.specs.Kinds.{children_of}
+use Rattle.layout.specs.declared.ChildrenKind.TheVariants.{Counted}
 use Rattle.walk.specs.Stands.{Stands, Skips, ColumnsAt}
 use Rattle.walk.proofs.Standing.{first_stands, byte_stands, stands_behind, skip_ahead}
 use Rattle.walk.proofs.Parts.{Ahead}
@@ -72,7 +74,7 @@ plain_types how l x y c i w w' =
 
 module _ (how : Comparison) {s t : Bytes} {a b : ℕ} (levels : ℕ) where
   -- no type is of no level
-  pub no_types : (r : Bool) → levels ≤ 0 → Types how s a t b levels r
+  pub no_types : (r : Bool) → levels ≡ 0 → Types how s a t b levels r
   no_types r h zero x y k w w' st st' = absurd w
   no_types r h (suc l) x y k w w' st st' = absurd (omega (arith, h, k))
 
@@ -124,8 +126,8 @@ module _ (how : Comparison) {s t : Bytes} {a b n m p q : ℕ} (f : (x : Schema) 
   pub columns_counts : (n ≡ m → ⊥) → Columns how s a t b false
   columns_counts d x y w w' st st' = counts_differ _ x.columns y.columns λ e. d ((f x st).count ∙ e ∙ sym (g y st').count)
 
-  pub columns_rows : {r : Bool} → n ≡ m → Rows how s p t q (children_by 4) n 32 r → Columns how s a t b r
-  unfolding children_by child_bytes
+  pub columns_rows : {r : Bool} → n ≡ m → Rows how s p t q (children_of Counted) n 32 r → Columns how s a t b r
+  unfolding children_of child_bytes
   columns_rows d h x y w w' st st' =
       h 32 x.columns y.columns (omega arith) (sym (f x st).count) (sym (d ∙ (g y st').count)) w w' (f x st).stands (g y st').stands
 
@@ -157,11 +159,9 @@ module _ (how : Comparison) {s t : Bytes} {r : Bool} (c : Columns how s 0 t 0 r)
   sheets_besides e d x y w w' st st' =
       d x y st st' ∙ ap (λ b. b && besides how x.metadata y.metadata) (sym e ∙ c x y w w' st st') ∙ schema_parts how x y w w'
 
-  pub sheets_equal : r ≡ true → how ≡ Equal → Sheets how s t true
-  sheets_equal e h = sheets_besides e λ x y st st'. sym (ap (λ how. besides how x.metadata y.metadata) h)
-
-  pub sheets_datatype : r ≡ true → how ≡ EqualsDatatype → Sheets how s t true
-  sheets_datatype e h = sheets_besides e λ x y st st'. sym (ap (λ how. besides how x.metadata y.metadata) h)
+  pub sheets_equal : r ≡ true → how ≡ Equal ⊎ how ≡ EqualsDatatype → Sheets how s t true
+  sheets_equal e (inl h) = sheets_besides e λ x y st st'. sym (ap (λ how. besides how x.metadata y.metadata) h)
+  sheets_equal e (inr h) = sheets_besides e λ x y st st'. sym (ap (λ how. besides how x.metadata y.metadata) h)
 
   pub sheets_metadata : {n p m q : ℕ} {z : Bool} → r ≡ true → how ≡ Contains → ((x : Schema) → Stands s 0 (sheet_bytes x) → PairsAt s x.metadata n p)
       → ((y : Schema) → Stands t 0 (sheet_bytes y) → PairsAt t y.metadata m q) → Contained s n p t m q z → Sheets how s t z

@@ -1,7 +1,13 @@
--- What the enum of this crate says: the definition's position, or none.
-use Rattle.model.specs.Bytes.{Found, found, missing}
-use Rattle.datatype.specs.declared.Match.{Match}
+-- What a look-up gives: the definition's position, or none.
+use Rattle.std.specs.Prelude.{ℕ, ◌≡◌, Bool, Option, Some, None}
+use Rattle.model.specs.Bytes.{Bytes, Found, found, missing}
+use Rattle.model.specs.Tree.{Field}
+use Rattle.walk.specs.Stands.{Stands, member_bytes}
 
-abbrev pub match_of : Found → Match
-match_of (found i) = Match.First i
-match_of missing = Match.Missing
+abbrev pub match_of : Found → Option ℕ
+match_of (found i) = Some i
+match_of missing = None
+
+-- a call at the place of a union child answers as the test of the child does
+abbrev pub TestedBy : (answers : ℕ → Bool → Type 0) → Bytes → (l : ℕ) → (Field l → Bool) → Field l → Type 0
+TestedBy answers s l test k = (place : ℕ) (r : Bool) → Stands s place (member_bytes l k) → answers place r → r ≡ test k

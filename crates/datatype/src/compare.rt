@@ -7,25 +7,22 @@ ghost use Rattle.model.specs.Tree.{Head, DataType, Field, layout};
 ghost use Rattle.model.specs.Tree.Children.{counted_with_ids};
 ghost use Rattle.model.specs.Sheet.{each, head_bytes, field_bytes, children_bytes, type_bytes};
 ghost use Rattle.model.specs.WellFormed.{CountFits, LaidOut, Whole, Child};
-ghost use Rattle.layout.specs.Kinds.{children_by};
+ghost use Rattle.layout.specs.Kinds.{children_of};
 ghost use Rattle.walk.specs.Stands.{Stands, Skips};
 ghost use Rattle.datatype.specs.Children.{child_bytes};
 ghost use Rattle.datatype.specs.Comparisons.{same_head, contains_head, compare_head, compare_type, compare_field, compare_child, compare_members, compare_children, by_id, below, counts_agree};
 
 use crate::metadata::{contains_metadata, of_head, same_name, same_stretch};
+use layout::{ChildrenKind, RUN_END_ENCODED, UNION};
+use walk::Elements;
 
 // `==`, `DataType::equals_datatype`, `DataType::contains`.
-#[derive(Clone, Copy)]
+#[derive(Clone, Copy, PartialEq, Eq)]
 pub enum Comparison {
     Equal,
     EqualsDatatype,
     Contains,
 }
-
-// The codes whose children one of the three compares in a way of its own.
-const UNION: usize = 33;
-
-const RUN_END_ENCODED: usize = 40;
 
 // Whether two heads are equal but for the order flag and the dictionary number. Of the maps the bits of nullable, name and metadata count.
 fn same_head(s: &[u8], a: usize, t: &[u8], b: usize) -> bool
@@ -33,7 +30,7 @@ fn same_head(s: &[u8], a: usize, t: &[u8], b: usize) -> bool
 {
     let map = walk::byte(s, a);
     let other = walk::byte(t, b);
-    if map % 2 != other % 2 {
+    if walk::bit(map, 0) != walk::bit(other, 0) {
         return false;
     }
     if map / 4 % 4 != other / 4 % 4 {
@@ -57,10 +54,10 @@ fn contains_head(s: &[u8], a: usize, t: &[u8], b: usize) -> bool
 {
     let map = walk::byte(s, a);
     let other = walk::byte(t, b);
-    if map / 2 % 2 != other / 2 % 2 {
+    if walk::bit(map, 1) != walk::bit(other, 1) {
         return false;
     }
-    if map % 2 < other % 2 {
+    if walk::bit(other, 0) && !walk::bit(map, 0) {
         return false;
     }
     if !same_name(s, a, t, b) {
@@ -75,61 +72,48 @@ fn compare_head(s: &[u8], a: usize, t: &[u8], b: usize, how: Comparison) -> bool
 {
     match how {
         Comparison::Equal => same_head(s, a, t, b),
-        Comparison::EqualsDatatype => walk::byte(s, a) % 2 == walk::byte(t, b) % 2,
+        Comparison::EqualsDatatype => walk::bit(walk::byte(s, a), 0)
+            == walk::bit(walk::byte(t, b), 0),
         Comparison::Contains => contains_head(s, a, t, b),
     }
 }
 
 // Whether the children of a type of this code are matched by id, in any order. Plain equality goes by position.
+#[tactic(auto, unfolding(crate::specs::Comparisons::by_id))]
 fn by_id(how: Comparison, code: usize) -> bool
     ensures { result ≡ by_id how code }
 {
-    match how {
-        Comparison::Equal => false,
-        Comparison::EqualsDatatype => code == UNION,
-        Comparison::Contains => code == UNION,
-    }
+    how != Comparison::Equal && code == UNION
 }
 
 // How the children of a type of this code are compared: `contains` has no arm for RunEndEncoded, so there they must be equal.
+#[tactic(auto, unfolding(crate::specs::Comparisons::below, model::specs::Bytes::choose))]
 fn below(how: Comparison, code: usize) -> Comparison
     ensures { result ≡ below how code }
 {
     match how {
-        Comparison::Equal => Comparison::Equal,
-        Comparison::EqualsDatatype => Comparison::EqualsDatatype,
-        Comparison::Contains => {
-            if code == RUN_END_ENCODED {
-                return Comparison::Equal;
-            }
-            Comparison::Contains
-        }
+        Comparison::Contains if code == RUN_END_ENCODED => Comparison::Equal,
+        _ => how,
     }
 }
 
 // What a comparison asks of the numbers of children of two unions: `equals_datatype` that they are equal, `contains` nothing.
+#[tactic(auto, unfolding(crate::specs::Comparisons::counts_agree))]
 fn counts_agree(how: Comparison, n: usize, m: usize) -> bool
     ensures { result ≡ counts_agree how n m }
 {
-    match how {
-        Comparison::Equal => true,
-        Comparison::EqualsDatatype => n == m,
-        Comparison::Contains => true,
-    }
+    how != Comparison::EqualsDatatype || n == m
 }
 
-// The place behind a child, by the kind of its parent's children, as the crate `layout` numbers them: 3 is a Dictionary's two types,
-// which have no head, and above 4 an id stands before each field.
-fn skip_child(s: &[u8], at: usize, kind: usize, levels: usize) -> usize
-    ensures { (l : ℕ) (k : Field l) → l ≤ levels → LaidOut l k.data_type → Skips s.now at (child_bytes l (children_by kind) k) result }
+// The place behind a child of a parent with this kind of children: a Dictionary's two types have no head, a union's fields stand behind ids.
+fn skip_child(s: &[u8], at: usize, kind: ChildrenKind, levels: usize) -> usize
+    ensures { (l : ℕ) (k : Field l) → l ≤ levels → LaidOut l k.data_type → Skips s.now at (child_bytes l (children_of kind) k) result }
 {
-    if kind == 3 {
-        return walk::skip_type(s, at, levels);
+    match kind {
+        ChildrenKind::KeyAndValue => walk::skip_type(s, at, levels),
+        ChildrenKind::Fields(_) | ChildrenKind::Counted => walk::skip_field(s, at, levels),
+        ChildrenKind::CountedWithIds => walk::skip_field(s, walk::ahead(s, at, 1), levels),
     }
-    if kind < 5 {
-        return walk::skip_field(s, at, levels);
-    }
-    walk::skip_field(s, walk::ahead(s, at, 1), levels)
 }
 
 // Two types of at most so many levels: one code, equal parameters, and the children. A plain type has neither.
@@ -137,7 +121,7 @@ fn skip_child(s: &[u8], at: usize, kind: usize, levels: usize) -> usize
 pub fn compare_type(s: &[u8], a: usize, t: &[u8], b: usize, levels: usize, how: Comparison) -> bool
     ensures { (l : ℕ) (x y : DataType l) → l ≤ levels → Whole l x → Whole l y → Stands s.now a (type_bytes l x) → Stands t.now b (type_bytes l y) → result ≡ compare_type how l x y }
 {
-    if levels <= 0 {
+    if levels == 0 {
         return true;
     }
     let code = walk::byte(s, a);
@@ -177,29 +161,24 @@ fn compare_child(
     a: usize,
     t: &[u8],
     b: usize,
-    kind: usize,
+    kind: ChildrenKind,
     levels: usize,
     how: Comparison,
 ) -> bool
-    ensures { (l : ℕ) (j k : Field l) → l ≤ levels → Child l (children_by kind) j → Child l (children_by kind) k → Stands s.now a (child_bytes l (children_by kind) j) → Stands t.now b (child_bytes l (children_by kind) k) → result ≡ compare_child how l j k }
+    ensures { (l : ℕ) (j k : Field l) → l ≤ levels → Child l (children_of kind) j → Child l (children_of kind) k → Stands s.now a (child_bytes l (children_of kind) j) → Stands t.now b (child_bytes l (children_of kind) k) → result ≡ compare_child how l j k }
 {
-    if kind == 3 {
-        return compare_type(s, a, t, b, levels, how);
+    match kind {
+        ChildrenKind::KeyAndValue => compare_type(s, a, t, b, levels, how),
+        ChildrenKind::Fields(_) | ChildrenKind::Counted => compare_field(s, a, t, b, levels, how),
+        ChildrenKind::CountedWithIds => {
+            if walk::byte(s, a) != walk::byte(t, b) {
+                return false;
+            }
+            let own = walk::ahead(s, a, 1);
+            let other = walk::ahead(t, b, 1);
+            compare_field(s, own, t, other, levels, how)
+        }
     }
-    if kind < 5 {
-        return compare_field(s, a, t, b, levels, how);
-    }
-    if walk::byte(s, a) != walk::byte(t, b) {
-        return false;
-    }
-    compare_field(
-        s,
-        walk::ahead(s, a, 1),
-        t,
-        walk::ahead(t, b, 1),
-        levels,
-        how,
-    )
 }
 
 // So many children one behind the other, each with the one at its position. A loop: a thousand take no more stack than one. The last decides,
@@ -210,26 +189,24 @@ pub fn compare_row(
     a: usize,
     t: &[u8],
     b: usize,
-    kind: usize,
+    kind: ChildrenKind,
     count: usize,
     levels: usize,
     how: Comparison,
 ) -> bool
-    ensures { (l : ℕ) (js ks : List (Field l)) → l ≤ levels → length js ≡ count → length ks ≡ count → Every (Child l (children_by kind)) js → Every (Child l (children_by kind)) ks → Stands s.now a (each (child_bytes l (children_by kind)) js) → Stands t.now b (each (child_bytes l (children_by kind)) ks) → result ≡ same (compare_child how l) js ks }
+    ensures { (l : ℕ) (js ks : List (Field l)) → l ≤ levels → length js ≡ count → length ks ≡ count → Every (Child l (children_of kind)) js → Every (Child l (children_of kind)) ks → Stands s.now a (each (child_bytes l (children_of kind)) js) → Stands t.now b (each (child_bytes l (children_of kind)) ks) → result ≡ same (compare_child how l) js ks }
 {
+    if count == 0 {
+        return true;
+    }
     let mut place = a;
     let mut other = b;
-    let mut left = count;
-    while 1 < left {
+    for _ in 1..count {
         if !compare_child(s, place, t, other, kind, levels, how) {
             return false;
         }
         place = skip_child(s, place, kind, levels);
         other = skip_child(t, other, kind, levels);
-        left -= 1;
-    }
-    if left == 0 {
-        return true;
     }
     compare_child(s, place, t, other, kind, levels, how)
 }
@@ -241,24 +218,24 @@ fn compare_in_order(
     a: usize,
     t: &[u8],
     b: usize,
-    kind: usize,
+    kind: ChildrenKind,
     levels: usize,
     how: Comparison,
 ) -> bool
-    ensures { (l : ℕ) (js ks : List (Field l)) → l ≤ levels → CountFits (children_by kind) js → CountFits (children_by kind) ks → Every (Child l (children_by kind)) js → Every (Child l (children_by kind)) ks → Stands s.now a (children_bytes (type_bytes l) (children_by kind) js) → Stands t.now b (children_bytes (type_bytes l) (children_by kind) ks) → result ≡ same (compare_child how l) js ks }
+    ensures { (l : ℕ) (js ks : List (Field l)) → l ≤ levels → CountFits (children_of kind) js → CountFits (children_of kind) ks → Every (Child l (children_of kind)) js → Every (Child l (children_of kind)) ks → Stands s.now a (children_bytes (type_bytes l) (children_of kind) js) → Stands t.now b (children_bytes (type_bytes l) (children_of kind) ks) → result ≡ same (compare_child how l) js ks }
 {
-    if kind < 3 {
-        return compare_row(s, a, t, b, kind, kind, levels, how);
+    match kind {
+        ChildrenKind::Fields(count) => compare_row(s, a, t, b, kind, count, levels, how),
+        ChildrenKind::KeyAndValue => compare_row(s, a, t, b, kind, 2, levels, how),
+        ChildrenKind::Counted | ChildrenKind::CountedWithIds => {
+            let own = Elements::counted(s, a);
+            let others = Elements::counted(t, b);
+            if own.count != others.count {
+                return false;
+            }
+            compare_row(s, own.at, t, others.at, kind, own.count, levels, how)
+        }
     }
-    if kind == 3 {
-        return compare_row(s, a, t, b, kind, 2, levels, how);
-    }
-    let count = walk::two(s, a);
-    if count != walk::two(t, b) {
-        return false;
-    }
-    let first = walk::ahead(s, a, 2);
-    compare_row(s, first, t, walk::ahead(t, b, 2), kind, count, levels, how)
 }
 
 // Whether one of so many union children agrees with the one at a place of the first sheet.
@@ -267,21 +244,18 @@ fn has_member(
     s: &[u8],
     a: usize,
     t: &[u8],
-    b: usize,
-    count: usize,
+    others: Elements,
     levels: usize,
     how: Comparison,
 ) -> bool
-    ensures { (l : ℕ) (j : Field l) (ks : List (Field l)) → l ≤ levels → length ks ≡ count → Child l (children_by 5) j → Every (Child l (children_by 5)) ks → Stands s.now a (child_bytes l (children_by 5) j) → Stands t.now b (each (child_bytes l (children_by 5)) ks) → result ≡ any (compare_child how l j) ks }
+    ensures { (l : ℕ) (j : Field l) (ks : List (Field l)) → l ≤ levels → length ks ≡ others.count → Child l counted_with_ids j → Every (Child l counted_with_ids) ks → Stands s.now a (child_bytes l counted_with_ids j) → Stands t.now others.at (each (child_bytes l counted_with_ids) ks) → result ≡ any (compare_child how l j) ks }
 {
-    let mut place = b;
-    let mut left = count;
-    while 0 < left {
-        if compare_child(s, a, t, place, 5, levels, how) {
+    let mut place = others.at;
+    for _ in 0..others.count {
+        if compare_child(s, a, t, place, ChildrenKind::CountedWithIds, levels, how) {
             return true;
         }
-        place = skip_child(t, place, 5, levels);
-        left -= 1;
+        place = skip_child(t, place, ChildrenKind::CountedWithIds, levels);
     }
     false
 }
@@ -290,24 +264,20 @@ fn has_member(
 #[cycle(comparing)]
 fn every_member(
     s: &[u8],
-    a: usize,
-    n: usize,
+    own: Elements,
     t: &[u8],
-    b: usize,
-    m: usize,
+    others: Elements,
     levels: usize,
     how: Comparison,
 ) -> bool
-    ensures { (l : ℕ) (js ks : List (Field l)) → l ≤ levels → length js ≡ n → length ks ≡ m → Every (Child l (children_by 5)) js → Every (Child l (children_by 5)) ks → Stands s.now a (each (child_bytes l (children_by 5)) js) → Stands t.now b (each (child_bytes l (children_by 5)) ks) → result ≡ all (λ j. any (compare_child how l j) ks) js }
+    ensures { (l : ℕ) (js ks : List (Field l)) → l ≤ levels → length js ≡ own.count → length ks ≡ others.count → Every (Child l counted_with_ids) js → Every (Child l counted_with_ids) ks → Stands s.now own.at (each (child_bytes l counted_with_ids) js) → Stands t.now others.at (each (child_bytes l counted_with_ids) ks) → result ≡ all (λ j. any (compare_child how l j) ks) js }
 {
-    let mut place = a;
-    let mut left = n;
-    while 0 < left {
-        if !has_member(s, place, t, b, m, levels, how) {
+    let mut place = own.at;
+    for _ in 0..own.count {
+        if !has_member(s, place, t, others, levels, how) {
             return false;
         }
-        place = skip_child(s, place, 5, levels);
-        left -= 1;
+        place = skip_child(s, place, ChildrenKind::CountedWithIds, levels);
     }
     true
 }
@@ -317,13 +287,12 @@ fn every_member(
 fn compare_members(s: &[u8], a: usize, t: &[u8], b: usize, levels: usize, how: Comparison) -> bool
     ensures { (l : ℕ) (js ks : List (Field l)) → l ≤ levels → Every (Child l counted_with_ids) js → Every (Child l counted_with_ids) ks → Stands s.now a (children_bytes (type_bytes l) counted_with_ids js) → Stands t.now b (children_bytes (type_bytes l) counted_with_ids ks) → result ≡ compare_members how l js ks }
 {
-    let n = walk::two(s, a);
-    let m = walk::two(t, b);
-    if !counts_agree(how, n, m) {
+    let own = Elements::counted(s, a);
+    let others = Elements::counted(t, b);
+    if !counts_agree(how, own.count, others.count) {
         return false;
     }
-    let first = walk::ahead(s, a, 2);
-    every_member(s, first, n, t, walk::ahead(t, b, 2), m, levels, how)
+    every_member(s, own, t, others, levels, how)
 }
 
 // The children of two types of this code.
@@ -342,6 +311,5 @@ fn compare_children(
     if by_id(how, code) {
         return compare_members(s, a, t, b, levels, how);
     }
-    let kind = buffer::wide(layout::children_kind(code));
-    compare_in_order(s, a, t, b, kind, levels, below(how, code))
+    compare_in_order(s, a, t, b, layout::children(code), levels, below(how, code))
 }

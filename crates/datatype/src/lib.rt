@@ -6,9 +6,9 @@
 mod compare;
 pub mod metadata;
 
-ghost use Rattle.std.specs.Prelude.{◌≡◌, List, map, ℕ, ◌≤◌, length};
+ghost use Rattle.std.specs.Prelude.{◌≡◌, List, map, ℕ, ◌≤◌, length, Bool};
 ghost use Rattle.model.specs.Numbers.{max_levels};
-ghost use Rattle.model.specs.Bytes.{Bytes, Every, same, flag};
+ghost use Rattle.model.specs.Bytes.{Bytes, Every, same, flag, position};
 ghost use Rattle.model.specs.Tree.{DataType, Field, Schema};
 ghost use Rattle.model.specs.Sheet.{each, field_bytes, type_bytes, sheet_bytes, column_bytes};
 ghost use Rattle.model.specs.Tree.Children.{counted};
@@ -20,13 +20,15 @@ ghost use Rattle.model.specs.Call.{equal_call, equals_datatype_call, contains_ca
 ghost use Rattle.buffer.specs.Buffer.{pasted};
 ghost use Rattle.buffer.specs.Leaves.{leaves};
 ghost use Rattle.walk.specs.Stands.{Stands, member_bytes};
-ghost use Rattle.datatype.specs.Answers.{match_of};
+ghost use Rattle.datatype.specs.Answers.{match_of, TestedBy};
 ghost use Rattle.datatype.specs.Comparisons.{compare_child, compare_schema, compare_call};
 
-use buffer::Outcome;
+use buffer::Refusal;
 use compare::{Comparison, compare_field, compare_row, compare_type};
+use layout::ChildrenKind;
 use metadata::{contains_metadata, of_sheet};
-use sheet::{Cursor, Step};
+use sheet::Cursor;
+use walk::Elements;
 
 // Whether two types are equal, of at most so many levels.
 pub fn same_type(s: &[u8], a: usize, t: &[u8], b: usize, levels: usize) -> bool
@@ -42,64 +44,68 @@ pub fn same_field(s: &[u8], a: usize, t: &[u8], b: usize, levels: usize) -> bool
     compare_field(s, a, t, b, levels, Comparison::Equal)
 }
 
-// The position of the first union child that matches, or none.
-#[derive(Clone, Copy)]
-pub enum Match {
-    First(usize),
-    Missing,
-}
-
-// `UnionFields::find_by_type_id`: the first of so many union children, one behind the other from a place on, that has this id.
-pub fn find_by_type_id(s: &[u8], at: usize, count: usize, id: usize, levels: usize) -> Match
-    ensures { (l : ℕ) (ks : List (Field l)) → l ≤ levels → length ks ≡ count → Every (λ k. LaidOut l k.data_type) ks → Stands s.now at (each (member_bytes l) ks) → result ≡ match_of (find_by_type_id ks id) }
+// The position of the first of so many union children at whose place a test says yes.
+fn find_child<F: Fn(usize) -> bool>(
+    s: &[u8],
+    members: Elements,
+    levels: usize,
+    matches: F,
+) -> Option<usize>
+    requires { F.IsAlwaysCallable matches }
+    ensures { (l : ℕ) (test : Field l → Bool) (ks : List (Field l)) → l ≤ levels → length ks ≡ members.count → Every (λ k. LaidOut l k.data_type × TestedBy (F.post matches) s.now l test k) ks → Stands s.now members.at (each (member_bytes l) ks) → result ≡ match_of (position test ks) }
 {
-    let mut place = at;
-    let mut i = 0;
-    while i < count {
-        if walk::byte(s, place) == id {
-            return Match::First(i);
+    let mut place = members.at;
+    for i in 0..members.count {
+        if matches(place) {
+            return Some(i);
         }
         place = walk::skip_field(s, walk::ahead(s, place, 1), levels);
-        i += 1;
     }
-    Match::Missing
+    None
+}
+
+// `UnionFields::find_by_type_id`: the first of so many union children that has this id.
+pub fn find_by_type_id(s: &[u8], members: Elements, id: usize, levels: usize) -> Option<usize>
+    ensures { (l : ℕ) (ks : List (Field l)) → l ≤ levels → length ks ≡ members.count → Every (λ k. LaidOut l k.data_type) ks → Stands s.now members.at (each (member_bytes l) ks) → result ≡ match_of (find_by_type_id ks id) }
+{
+    find_child(s, members, levels, |place| walk::byte(s, place) == id)
 }
 
 // `UnionFields::find_by_field`: the first of them whose field is equal to the one that stands at a place of another sheet.
 pub fn find_by_field(
     s: &[u8],
-    at: usize,
-    count: usize,
+    members: Elements,
     t: &[u8],
     field: usize,
     levels: usize,
-) -> Match
-    ensures { (l : ℕ) (g : Field l) (ks : List (Field l)) → l ≤ levels → length ks ≡ count → Whole l g.data_type → Every (λ k. Whole l k.data_type) ks → Stands t.now field (field_bytes (type_bytes l) g) → Stands s.now at (each (member_bytes l) ks) → result ≡ match_of (find_by_field (same_type l) ks g) }
+) -> Option<usize>
+    ensures { (l : ℕ) (g : Field l) (ks : List (Field l)) → l ≤ levels → length ks ≡ members.count → Whole l g.data_type → Every (λ k. Whole l k.data_type) ks → Stands t.now field (field_bytes (type_bytes l) g) → Stands s.now members.at (each (member_bytes l) ks) → result ≡ match_of (find_by_field (same_type l) ks g) }
 {
-    let mut place = at;
-    let mut i = 0;
-    while i < count {
-        let own = walk::ahead(s, place, 1);
-        if same_field(s, own, t, field, levels) {
-            return Match::First(i);
-        }
-        place = walk::skip_field(s, own, levels);
-        i += 1;
-    }
-    Match::Missing
+    find_child(s, members, levels, |place| {
+        same_field(s, walk::ahead(s, place, 1), t, field, levels)
+    })
 }
 
 // The columns of two sheets, by position.
 fn compare_columns(s: &[u8], a: usize, t: &[u8], b: usize, how: Comparison) -> bool
     ensures { (x y : Schema) → Every (Child 32 counted) x.columns → Every (Child 32 counted) y.columns → Stands s.now a (sheet_bytes x) → Stands t.now b (sheet_bytes y) → result ≡ same (compare_child how 32) x.columns y.columns }
 {
-    let columns = walk::find_columns(s, a);
+    let own = walk::find_columns(s, a);
     let others = walk::find_columns(t, b);
-    let count = columns.count;
-    if count != others.count {
+    if own.count != others.count {
         return false;
     }
-    compare_row(s, columns.at, t, others.at, 4, count, Cursor::LEVELS, how)
+    let kind = ChildrenKind::Counted;
+    compare_row(
+        s,
+        own.at,
+        t,
+        others.at,
+        kind,
+        own.count,
+        Cursor::LEVELS,
+        how,
+    )
 }
 
 // Two sheets: "both equalities take each sheet as the Struct of its columns", `Schema::contains` compares schema metadata too.
@@ -110,104 +116,94 @@ fn compare_sheets(s: &[u8], t: &[u8], how: Comparison) -> bool
         return false;
     }
     match how {
-        Comparison::Equal => true,
-        Comparison::EqualsDatatype => true,
+        Comparison::Equal | Comparison::EqualsDatatype => true,
         Comparison::Contains => contains_metadata(s, of_sheet(s, 0), t, of_sheet(t, 0)),
     }
 }
 
-// "one byte, 1 for yes and 0 for no"
-fn yes_no(yes: bool) -> u8
-    ensures { result ≡ flag 1 yes }
-{
-    if yes {
-        return 1;
-    }
-    0
-}
-
-// The call on two sheets: 32, a sheet refused, or the byte.
+// The call on two sheets: 32, a sheet refused, or "one byte, 1 for yes and 0 for no".
 fn answer_comparison(
     sheet: &[u8],
     other: &[u8],
     work: &mut [u8],
     answer: &mut [u8],
     how: Comparison,
-) -> Outcome
+) -> Result<usize, Refusal>
     ensures { leaves result answer.new work.new ≡ compare_call how sheet.now other.now work.old answer.old }
 {
-    if buffer::lacks_room_for_two(work.len(), sheet.len(), other.len()) {
-        return Outcome::refused(Outcome::WORK_BUFFER_SHORT, 0);
-    }
-    let read = sheet::read_two(sheet, other);
-    match read {
-        Step::Refused(number, place) => buffer::refuse(work, number, place),
-        Step::Next(end) => buffer::accept_byte(
-            work,
-            answer,
-            yes_no(compare_sheets(sheet, other, how)),
-        ),
+    buffer::work_fits_two(work.len(), sheet.len(), other.len())?;
+    match sheet::read_two(sheet, other) {
+        Err(refusal) => buffer::refuse(work, refusal),
+        Ok(_) => buffer::accept_byte(work, answer, u8::from(compare_sheets(sheet, other, how))),
     }
 }
 
 // `==` of `DataType`.
-pub fn equal(sheet: &[u8], other: &[u8], work: &mut [u8], answer: &mut [u8]) -> Outcome
+pub fn equal(
+    sheet: &[u8],
+    other: &[u8],
+    work: &mut [u8],
+    answer: &mut [u8],
+) -> Result<usize, Refusal>
     ensures { leaves result answer.new work.new ≡ equal_call sheet.now other.now work.old answer.old }
 {
     answer_comparison(sheet, other, work, answer, Comparison::Equal)
 }
 
 // `DataType::equals_datatype`.
-pub fn equals_datatype(sheet: &[u8], other: &[u8], work: &mut [u8], answer: &mut [u8]) -> Outcome
+pub fn equals_datatype(
+    sheet: &[u8],
+    other: &[u8],
+    work: &mut [u8],
+    answer: &mut [u8],
+) -> Result<usize, Refusal>
     ensures { leaves result answer.new work.new ≡ equals_datatype_call sheet.now other.now work.old answer.old }
 {
     answer_comparison(sheet, other, work, answer, Comparison::EqualsDatatype)
 }
 
 // `Schema::contains`.
-pub fn contains(sheet: &[u8], other: &[u8], work: &mut [u8], answer: &mut [u8]) -> Outcome
+pub fn contains(
+    sheet: &[u8],
+    other: &[u8],
+    work: &mut [u8],
+    answer: &mut [u8],
+) -> Result<usize, Refusal>
     ensures { leaves result answer.new work.new ≡ contains_call sheet.now other.now work.old answer.old }
 {
     answer_comparison(sheet, other, work, answer, Comparison::Contains)
 }
 
-// One byte for each column, over the answer's beginning, of so many columns that stand one behind the other at a place.
-fn write_nested(sheet: &[u8], at: usize, count: usize, answer: &mut [u8])
-    requires { count ≤ length answer.old }
-    ensures { (fs : List (Field max_levels)) → length fs ≡ count → Every (λ f. LaidOut max_levels f.data_type) fs → Stands sheet.now at (each column_bytes fs) → answer.new ≡ pasted answer.old 0 (map (λ f. flag 1 (is_nested max_levels f.data_type)) fs) }
+// One byte for each of the columns that stand one behind the other at a place.
+fn write_nested(sheet: &[u8], at: usize, answer: &mut [u8])
+    ensures { (fs : List (Field max_levels)) → length fs ≡ length answer.old → Every (λ f. LaidOut max_levels f.data_type) fs → Stands sheet.now at (each column_bytes fs) → answer.new ≡ map (λ f. flag 1 (is_nested max_levels f.data_type)) fs }
 {
     let mut place = at;
-    let mut i = 0;
-    while i < count {
+    for byte in answer {
         let data_type = walk::skip_head(sheet, place);
-        answer[i] = yes_no(walk::is_nested(sheet, data_type, Cursor::LEVELS));
+        *byte = u8::from(walk::is_nested(sheet, data_type, Cursor::LEVELS));
         place = walk::skip_type(sheet, data_type, Cursor::LEVELS);
-        i += 1;
     }
 }
 
 // The columns of a sheet that was read: 31, or a byte for each.
-fn answer_nested(sheet: &[u8], answer: &mut [u8]) -> Outcome
+fn answer_nested(sheet: &[u8], answer: &mut [u8]) -> Result<usize, Refusal>
     ensures { (x : Schema) → Fits x → sheet.now ≡ sheet_bytes x → (work : Bytes) → leaves result answer.new work ≡ acceptance (map (λ f. flag 1 (is_nested max_levels f.data_type)) x.columns) work answer.old }
 {
     let columns = walk::find_columns(sheet, 0);
-    if answer.len() < columns.count {
-        return Outcome::refused(Outcome::ANSWER_BUFFER_SHORT, 0);
-    }
-    write_nested(sheet, columns.at, columns.count, answer);
-    Outcome::accepted(columns.count)
+    buffer::length_fits(columns.count, answer.len())?;
+    write_nested(sheet, columns.at, &mut answer[..columns.count]);
+    Ok(columns.count)
 }
 
 // `DataType::is_nested` of each column.
-pub fn is_nested(sheet: &[u8], work: &mut [u8], answer: &mut [u8]) -> Outcome
+pub fn is_nested(sheet: &[u8], work: &mut [u8], answer: &mut [u8]) -> Result<usize, Refusal>
     ensures { leaves result answer.new work.new ≡ is_nested_call sheet.now work.old answer.old }
 {
-    if buffer::lacks_room(work.len(), sheet.len()) {
-        return Outcome::refused(Outcome::WORK_BUFFER_SHORT, 0);
-    }
+    buffer::work_fits(work.len(), sheet.len())?;
     match sheet::read_sheet(sheet) {
-        Step::Refused(number, place) => buffer::refuse(work, number, place),
-        Step::Next(_) => {
+        Err(refusal) => buffer::refuse(work, refusal),
+        Ok(_) => {
             buffer::clear(work);
             answer_nested(sheet, answer)
         }

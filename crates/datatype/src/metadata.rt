@@ -8,30 +8,16 @@ ghost use Rattle.model.specs.Datatype.{contains_metadata};
 ghost use Rattle.walk.specs.Stands.{Stands};
 ghost use Rattle.datatype.specs.Comparisons.{PairsAt};
 
-// How many keys metadata has, and where the first stands.
-#[derive(Clone, Copy)]
-pub struct Pairs {
-    pub count: usize,
-    pub at: usize,
-}
+use walk::Elements;
 
 // Whether the bytes from one place to another are equal to those between two places of the other sheet.
 pub fn same_stretch(s: &[u8], a: usize, e: usize, t: &[u8], b: usize, f: usize) -> bool
     ensures { (x y : Bytes) → Stands s.now a x → Stands t.now b y → e ≡ a + length x → f ≡ b + length y → result ≡ same_bytes x y }
 {
-    if e < a {
+    let (Some(own), Some(other)) = (s.get(a..e), t.get(b..f)) else {
         return false;
-    }
-    if s.len() < e {
-        return false;
-    }
-    if f < b {
-        return false;
-    }
-    if t.len() < f {
-        return false;
-    }
-    text::same(&s[a..e], &t[b..f])
+    };
+    text::same(own, other)
 }
 
 // Whether two texts are equal: their bytes without the lengths.
@@ -54,11 +40,11 @@ pub fn same_text(s: &[u8], a: usize, t: &[u8], b: usize) -> bool
 pub fn same_name(s: &[u8], a: usize, t: &[u8], b: usize) -> bool
     ensures { (h g : Head) → Stands s.now a (head_bytes h) → Stands t.now b (head_bytes g) → result ≡ same_bytes h.name g.name }
 {
-    let named = walk::byte(s, a) / 4 % 2;
-    if named != walk::byte(t, b) / 4 % 2 {
+    let named = walk::bit(walk::byte(s, a), 2);
+    if named != walk::bit(walk::byte(t, b), 2) {
         return false;
     }
-    if named == 0 {
+    if !named {
         return true;
     }
     same_text(s, walk::ahead(s, a, 1), t, walk::ahead(t, b, 1))
@@ -70,14 +56,8 @@ pub fn name_of<'a>(s: &'a [u8], at: usize) -> &'a [u8]
 {
     let map = walk::byte(s, at);
     let from = walk::ahead(s, at, 1);
-    let end = walk::skip_text_if(s, from, map / 4 % 2 == 1);
-    if end < from {
-        return &s[0..0];
-    }
-    if s.len() < end {
-        return &s[0..0];
-    }
-    &s[from..end]
+    let end = walk::skip_if(s, from, walk::bit(map, 2), walk::skip_text);
+    s.get(from..end).unwrap_or(&[])
 }
 
 // Whether a field has a name, which is given as `name_of` gives one. So one name can be compared with many; since the length is compared
@@ -85,87 +65,75 @@ pub fn name_of<'a>(s: &'a [u8], at: usize) -> &'a [u8]
 pub fn has_name(s: &[u8], at: usize, name: &[u8]) -> bool
     ensures { (h : Head) (n : Bytes) → Stands s.now at (head_bytes h) → name.now ≡ part text_bytes n → result ≡ same_bytes h.name n }
 {
-    if s.len() <= at {
+    let named = walk::bit(walk::byte(s, at), 2);
+    if name.is_empty() {
+        return !named;
+    }
+    if !named {
         return false;
     }
-    if s.len() - at <= name.len() {
+    let from = walk::ahead(s, at, 1);
+    let Some(own) = s.get(from..from + name.len()) else {
         return false;
-    }
-    let bit = walk::byte(s, at) / 4 % 2;
-    if name.len() == 0 {
-        return bit == 0;
-    }
-    if bit == 0 {
-        return false;
-    }
-    let from = at + 1;
-    text::same(&s[from..from + name.len()], name)
+    };
+    text::same(own, name)
 }
 
 // `Metadata::get(key).is_some_and(|v| v == value)`, for the key and the value that stand at a place: the first pair with that key decides.
-pub fn get_is(s: &[u8], at: usize, count: usize, t: &[u8], key: usize) -> bool
-    ensures { (p : Bytes × Bytes) (m : Metadata) → length m ≡ count → Stands t.now key (pair_bytes p) → Stands s.now at (each pair_bytes m) → result ≡ get_is m p.0 p.1 }
+pub fn get_is(s: &[u8], pairs: Elements, t: &[u8], key: usize) -> bool
+    ensures { (p : Bytes × Bytes) (m : Metadata) → length m ≡ pairs.count → Stands t.now key (pair_bytes p) → Stands s.now pairs.at (each pair_bytes m) → result ≡ get_is m p.0 p.1 }
 {
     let value = walk::skip_text(t, key);
-    let mut place = at;
-    let mut left = count;
-    while 0 < left {
+    let mut place = pairs.at;
+    for _ in 0..pairs.count {
         let own = walk::skip_text(s, place);
         if same_text(s, place, t, key) {
             return same_text(s, own, t, value);
         }
         place = walk::skip_text(s, own);
-        left -= 1;
     }
     false
 }
 
 // Whether the first has every key of the second, with the same value.
-pub fn contains_metadata(s: &[u8], all: Pairs, t: &[u8], asked: Pairs) -> bool
+pub fn contains_metadata(s: &[u8], all: Elements, t: &[u8], asked: Elements) -> bool
     ensures { (m other : Metadata) → PairsAt s.now m all.count all.at → PairsAt t.now other asked.count asked.at → result ≡ contains_metadata m other }
 {
-    let at = all.at;
-    let count = all.count;
     let mut place = asked.at;
-    let mut left = asked.count;
-    while 0 < left {
-        if !get_is(s, at, count, t, place) {
+    for _ in 0..asked.count {
+        if !get_is(s, all, t, place) {
             return false;
         }
         place = walk::skip_text(t, walk::skip_text(t, place));
-        left -= 1;
     }
     true
 }
 
 // Metadata under a bit of a map: nothing stands for none.
-fn pairs_if(s: &[u8], at: usize, set: bool) -> Pairs
+fn pairs_if(s: &[u8], at: usize, set: bool) -> Elements
     ensures { (m : Metadata) → stands m ≡ set → Stands s.now at (part (with_count pair_bytes) m) → PairsAt s.now m result.count result.at }
 {
     if set {
-        return Pairs {
-            count: walk::two(s, at),
-            at: walk::ahead(s, at, 2),
-        };
+        return Elements::counted(s, at);
     }
-    Pairs { count: 0, at: at }
+    Elements { count: 0, at }
 }
 
 // The metadata of a field.
-pub fn of_head(s: &[u8], at: usize) -> Pairs
+pub fn of_head(s: &[u8], at: usize) -> Elements
     ensures { (h : Head) → Stands s.now at (head_bytes h) → PairsAt s.now h.metadata result.count result.at }
 {
     let map = walk::byte(s, at);
     let name = walk::ahead(s, at, 1);
-    let place = walk::skip_text_if(s, name, map / 4 % 2 == 1);
-    pairs_if(s, place, map / 8 % 2 == 1)
+    let place = walk::skip_if(s, name, walk::bit(map, 2), walk::skip_text);
+    pairs_if(s, place, walk::bit(map, 3))
 }
 
 // The metadata of a sheet's schema.
-pub fn of_sheet(s: &[u8], at: usize) -> Pairs
+pub fn of_sheet(s: &[u8], at: usize) -> Elements
     ensures { (x : Schema) → Stands s.now at (sheet_bytes x) → PairsAt s.now x.metadata result.count result.at }
 {
     let map = walk::byte(s, at);
     let place = walk::ahead(s, at, 1);
-    pairs_if(s, place, map % 2 == 1)
+    pairs_if(s, place, walk::bit(map, 0))
 }

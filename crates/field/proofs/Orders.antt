@@ -55,9 +55,9 @@ module _ {s w : Bytes} {place q flags map : ℕ} (i : flags ≡ get_or w place 0
     unfolding orders_agree
     agree_null h n = record { says = λ l k y f g e st sq. rw (differ l k y f g e st sq, h) (n.says l k y f g e st sq) }
 
-    pub agree_not : {parked : Bool} → parked ≡ false → OrdersAgree parked s w place q false
+    pub agree_not : {parked : Bool} → parked ≡ false → OrdersAgree parked s w place q parked
     unfolding orders_agree
-    agree_not h = record { says = λ l k y f g e st sq. rw (differ l k y f g e st sq, h) }
+    agree_not h = record { says = λ l k y f g e st sq. rw (h, differ l k y f g e st sq) }
 
 -- Nulls
 

@@ -15,14 +15,14 @@ use Rattle.model.specs.Sheet.{type_bytes}
 use Rattle.model.specs.Merge.{◌>>=◌, done, clash, need, merge_each, merge_same_code, merge_type, is_null, pour}
 use Rattle.model.specs.Equal.{same_child, same_type}
 use Rattle.model.proofs.Gives.{choose_true, choose_false}
+use Rattle.buffer.specs.declared.refusal.Number.{Number}
 use Rattle.walk.specs.Stands.{Stands}
 use Rattle.walk.proofs.Descents.{code_stands}
 use Rattle.table.specs.Held.{Held}
 use Rattle.table.specs.Table.{raw, u24, SpellType, spell_raw, spell_struct, spell_list, spell_union}
-use Rattle.table.specs.Says.{Says}
+use Rattle.table.specs.Says.{Merged, Says}
 use Rattle.table.specs.Becomes.{IncomingType}
-use Rattle.table.specs.declared.Merged.{Merged}
-use Rattle.table.specs.declared.Merged.TheVariants.{Used, Clash}
+use Rattle.std.proofs.Common.{Ok, Err}
 use Rattle.table.proofs.Numbers.{length_u24}
 use Rattle.table.proofs.Held.{held_stands}
 use Rattle.members.specs.Claims.{MergesUnion}
@@ -87,11 +87,11 @@ module _ (parked : Bool) where
       theirs_is : theirs ≡ u.code
       theirs_is = j ∙ code_stands l u i.stands
 
-    pub type_taken : {levels : ℕ} {w₁ : Bytes} → mine ≡ 0 → ((x y z : Bytes) → Held w used x y z → place ≡ length x → length y ≡ 4 → Held w₁ used x (raw ∷ u24 t) z) → MergesType parked levels s w used place t w₁ (Used used)
+    pub type_taken : {levels : ℕ} {w₁ : Bytes} → mine ≡ 0 → ((x y z : Bytes) → Held w used x y z → place ≡ length x → length y ≡ 4 → Held w₁ used x (raw ∷ u24 t) z) → MergesType parked levels s w used place t w₁ (Ok used)
     type_taken {levels} {w₁} e f = record { says = go }
       where
         go : (l : ℕ) (first u : DataType l) → l ≤ levels → IncomingType l s t u → (x y z : Bytes) (k : ℕ) (a : DataType l) → Held w used x y z → place ≡ length x → SpellType l s first k y a
-            → length x + (k + 4 * length (type_bytes l u)) + length z ≤ length w → Says (SpellType l s first) (k + 4 * length (type_bytes l u)) x z w₁ (Used used) (merge_type parked l a u)
+            → length x + (k + 4 * length (type_bytes l u)) + length z ≤ length w → Says (SpellType l s first) (k + 4 * length (type_bytes l u)) x z w₁ (Ok used) (merge_type parked l a u)
         go zero first u low i x y z k a held hx p room = absurd a
         go (suc l) first u low i x y z k a held hx p room =
             let n : a.code ≡ Null = sym (mine_is l first u a i held hx p) ∙ e in
@@ -107,11 +107,11 @@ module _ (parked : Bool) where
             }
 
     module _ (m : mine ≡ 0 → ⊥) where
-      pub type_kept : {levels : ℕ} → theirs ≡ 0 → MergesType parked levels s w used place t w (Used used)
+      pub type_kept : {levels : ℕ} → theirs ≡ 0 → MergesType parked levels s w used place t w (Ok used)
       type_kept {levels} e = record { says = go }
         where
           go : (l : ℕ) (first u : DataType l) → l ≤ levels → IncomingType l s t u → (x y z : Bytes) (k : ℕ) (a : DataType l) → Held w used x y z → place ≡ length x → SpellType l s first k y a
-              → length x + (k + 4 * length (type_bytes l u)) + length z ≤ length w → Says (SpellType l s first) (k + 4 * length (type_bytes l u)) x z w (Used used) (merge_type parked l a u)
+              → length x + (k + 4 * length (type_bytes l u)) + length z ≤ length w → Says (SpellType l s first) (k + 4 * length (type_bytes l u)) x z w (Ok used) (merge_type parked l a u)
           go zero first u low i x y z k a held hx p room = absurd a
           go (suc l) first u low i x y z k a held hx p room = record {
             value = a;
@@ -124,7 +124,7 @@ module _ (parked : Bool) where
           }
 
       module _ (n : theirs ≡ 0 → ⊥) where
-        pub type_clash_lem : {levels : ℕ} → (mine ≡ theirs → ⊥) → MergesType parked levels s w used place t w (Clash type_clash)
+        pub type_clash_lem : {levels : ℕ} → (mine ≡ theirs → ⊥) → MergesType parked levels s w used place t w (Err Number.TypeClash)
         type_clash_lem {levels} d = record { says = go }
           where
             go : (l : ℕ) (first u : DataType l) → l ≤ levels → IncomingType l s t u → (x y z : Bytes) (k : ℕ) (a : DataType l) → Held w used x y z → place ≡ length x → SpellType l s first k y a

@@ -14,11 +14,12 @@ use Rattle.model.specs.Read as read
 use Rattle.model.specs.Read.{got, bad, Reader, next, judged, unless, ◌then◌, anything, id_fits, if_set, read_number, read_text, read_metadata, read_dict_id, read_many, read_field, read_union_child, read_type}
 use Rattle.model.proofs.Steps.{Holds, value, refusal, next_holds}
 use Rattle.model.proofs.Items.{number_law}
-use Rattle.sheet.specs.Answers.{item_of, step_of, up_of}
+use Rattle.std.specs.Prelude.{Result, Ok, Err, IsErrAnd}
+use Rattle.buffer.specs.declared.refusal.Refusal.{Refusal}
+use Rattle.buffer.specs.Refusals.{numbered}
+use Rattle.sheet.specs.Answers.{Step, item_of, step_of}
 use Rattle.sheet.specs.Shapes.{no_ids, read_id, read_members}
-use Rattle.sheet.specs.declared.Item.{Item}
-use Rattle.sheet.specs.declared.Step.{Step}
-use Rattle.sheet.proofs.Ways.{item_is, item_no, step_is, step_no, step_made, next_next, next_alike}
+use Rattle.sheet.proofs.Ways.{told_ok, told_err, passed_on, item_is, item_no, step_is, step_no, step_made, next_next, next_alike}
 use Rattle.sheet.proofs.TreeWays.{field_any}
 
 -- the flags stand for the ids seen
@@ -120,34 +121,34 @@ module _ (s : Bytes) (lim l : ℕ) where
       ap (λ m. next (read_id s lim used at) (λ i p. next (read_field s lim l (read_type s lim l) i p) (λ f e. read_members s lim l (set used i 1) m e))) (sym w)
 
   module _ (used : List ℕ) (place left : ℕ) (whole : Step) (inv : step_of (read_members s lim l used left place) ≡ whole) where
-    pub members_done : left ≤ 0 → Step.Next place ≡ whole
+    pub members_done : left ≤ 0 → Ok place ≡ whole
     unfolding read_members
     members_done h = let z : left ≡ 0 = omega (arith, h) in ap (λ n. step_of (read_members s lim l used n place)) (sym z) ∙ inv
 
-    module _ (more : 0 < left) (i : Item) (p : i ≡ item_of (read_id s lim used place)) where
+    module _ (more : 0 < left) (i : Result (ℕ × ℕ) Refusal) (p : numbered i ≡ item_of (read_id s lim used place)) where
       abbrev after : ℕ → ℕ → read.Step (List ℕ)
       after i m = next (read_field s lim l (read_type s lim l) i m) (λ f e. read_members s lim l (set used i 1) (left - 1) e)
 
-      pub members_id_stop : (r : Step) (k q : ℕ) → i ≡ Item.Refused k q → r ≡ up_of i → r ≡ whole
+      pub members_id_stop : (x : Refusal) (y : Result ℕ Refusal) → i ≡ Err x → IsErrAnd y (λ z. z ≡ x) → numbered y ≡ whole
       unfolding next
-      members_id_stop r k q h t = t ∙ ap up_of h ∙ ap step_of (sym (turn used left place more ∙ ap (λ g. next g after) (item_no (read_id s lim used place) p h))) ∙ inv
+      members_id_stop x y h t = passed_on x y t ∙ ap step_of (sym (turn used left place more ∙ ap (λ g. next g after) (item_no (read_id s lim used place) p (told_err h)))) ∙ inv
 
-      module _ (v m : ℕ) (q : i ≡ Item.Is v m) (j : Step) (t : j ≡ step_of (read_field s lim l (read_type s lim l) 0 m)) where
+      module _ (v m : ℕ) (q : i ≡ Ok (v, m)) (j : Step) (t : j ≡ step_of (read_field s lim l (read_type s lim l) 0 m)) where
         abbrev last : Field l → ℕ → read.Step (List ℕ)
         last f e = read_members s lim l (set used v 1) (left - 1) e
 
         id_then : step_of (next (read_field s lim l (read_type s lim l) v m) last) ≡ whole
         unfolding next
-        id_then = ap step_of (sym (turn used left place more ∙ ap (λ g. next g after) (item_is (read_id s lim used place) p q))) ∙ inv
+        id_then = ap step_of (sym (turn used left place more ∙ ap (λ g. next g after) (item_is (read_id s lim used place) p (told_ok q)))) ∙ inv
 
         field_v : j ≡ step_of (read_field s lim l (read_type s lim l) v m)
         field_v = t ∙ field_any s lim l (read_type s lim l) 0 v m
 
-        pub members_field_stop : (k n : ℕ) → j ≡ Step.Refused k n → j ≡ whole
+        pub members_field_stop : (k n : ℕ) → j ≡ Err (k, n) → j ≡ whole
         unfolding next
         members_field_stop k n h = h ∙ ap (λ g. step_of (next g last)) (sym (step_no (read_field s lim l (read_type s lim l) v m) field_v h)) ∙ id_then
 
-        pub members_again : (e : ℕ) → j ≡ Step.Next e → step_of (read_members s lim l (set used v 1) (left - 1) e) ≡ whole
+        pub members_again : (e : ℕ) → j ≡ Ok e → step_of (read_members s lim l (set used v 1) (left - 1) e) ≡ whole
         unfolding next
         members_again e h = ap (λ g. step_of (next g last)) (sym (step_is (read_field s lim l (read_type s lim l) v m) field_v h).1) ∙ id_then
 
@@ -158,9 +159,9 @@ small at x e v m true zero h k = let z : x ≡ v = cc in omega (arith, leb-true 
 small at x e v m true (suc w) h k = let z : ◌≡◌ {A = ℕ} 0 1 = cc in absurd (omega arith)
 small at x e v m false w h k = let z : ◌≡◌ {A = ℕ} 0 1 = cc in absurd (omega arith)
 
-pub id_small : (s : Bytes) (lim : ℕ) (used : List ℕ) (at : ℕ) (i : Item) (v m : ℕ) → i ≡ item_of (read_id s lim used at) → i ≡ Item.Is v m → v < 128
+pub id_small : (s : Bytes) (lim : ℕ) (used : List ℕ) (at : ℕ) (i : Result (ℕ × ℕ) Refusal) (v m : ℕ) → numbered i ≡ item_of (read_id s lim used at) → i ≡ Ok (v, m) → v < 128
 unfolding read_id next
-id_small s lim used at i v m p q = go (read_number s lim 1 anything at) (item_is (read_id s lim used at) p q)
+id_small s lim used at i v m p q = go (read_number s lim 1 anything at) (item_is (read_id s lim used at) p (told_ok q))
   where
     go : (g : read.Step ℕ) → next g (λ i e. judged (unless (leb i 127) 6 then unless (not (eqb (get_or used i 0) 1)) 7) at i e) ≡ got v m → v < 128
     go (got x e) h = small at x e v m (leb x 127) _ refl h
@@ -168,20 +169,20 @@ id_small s lim used at i v m p q = go (read_number s lim 1 anything at) (item_is
 
 -- What is answered to an id
 
-module _ (s : Bytes) (lim : ℕ) (used : List ℕ) (at : ℕ) (i : Item) (p : i ≡ item_of (read_number s lim 1 anything at)) where
-  pub id_stop : (k q : ℕ) → i ≡ Item.Refused k q → i ≡ item_of (read_id s lim used at)
+module _ (s : Bytes) (lim : ℕ) (used : List ℕ) (at : ℕ) (i : Result (ℕ × ℕ) Refusal) (p : numbered i ≡ item_of (read_number s lim 1 anything at)) where
+  pub id_stop : (x : Refusal) (y : Result (ℕ × ℕ) Refusal) → i ≡ Err x → IsErrAnd y (λ z. z ≡ x) → numbered y ≡ item_of (read_id s lim used at)
   unfolding read_id next
-  id_stop k q h = rw (item_no (read_number s lim 1 anything at) p h) h
+  id_stop x y h t = passed_on x y t ∙ ap item_of (ap (λ g. next g (λ i e. judged (unless (leb i 127) 6 then unless (not (eqb (get_or used i 0) 1)) 7) at i e)) (sym (item_no (read_number s lim 1 anything at) p (told_err h))))
 
-  module _ (v e : ℕ) (q : i ≡ Item.Is v e) where
-    pub id_large : 127 < v → Item.Refused 6 at ≡ item_of (read_id s lim used at)
+  module _ (v e : ℕ) (q : i ≡ Ok (v, e)) where
+    pub id_large : 127 < v → Err (6, at) ≡ item_of (read_id s lim used at)
     unfolding read_id next judged unless ◌then◌
-    id_large h = rw (item_is (read_number s lim 1 anything at) p q, lt-leb v 127 h)
+    id_large h = rw (item_is (read_number s lim 1 anything at) p (told_ok q), lt-leb v 127 h)
 
-    pub id_again : v ≤ 127 → get_or used v 0 ≡ 1 → Item.Refused 7 at ≡ item_of (read_id s lim used at)
+    pub id_again : v ≤ 127 → get_or used v 0 ≡ 1 → Err (7, at) ≡ item_of (read_id s lim used at)
     unfolding read_id next judged unless ◌then◌
-    id_again h k = rw (item_is (read_number s lim 1 anything at) p q, le-leb v 127 h, eq-eqb (get_or used v 0) 1 k)
+    id_again h k = rw (item_is (read_number s lim 1 anything at) p (told_ok q), le-leb v 127 h, eq-eqb (get_or used v 0) 1 k)
 
-    pub id_new : v ≤ 127 → (get_or used v 0 ≡ 1 → ⊥) → Item.Is v e ≡ item_of (read_id s lim used at)
+    pub id_new : v ≤ 127 → (get_or used v 0 ≡ 1 → ⊥) → Ok (v, e) ≡ item_of (read_id s lim used at)
     unfolding read_id next judged unless ◌then◌
-    id_new h k = rw (item_is (read_number s lim 1 anything at) p q, le-leb v 127 h, ne_eqb (get_or used v 0) 1 k)
+    id_new h k = rw (item_is (read_number s lim 1 anything at) p (told_ok q), le-leb v 127 h, ne_eqb (get_or used v 0) 1 k)

@@ -1,19 +1,18 @@
 -- Parameters: what the code reads for each kind is what the definition reads for the parameters of that kind.
-use Prim.Native.Nat.{ℕ, zero, suc}
+use Prim.Native.Nat.{ℕ}
 use mathlib.Core.Path.{◌≡◌, refl, sym, ap, ◌∙◌}
 use mathlib.Core.List.{[], ◌∷◌, ◌++◌}
 use mathlib.Core.Bool.{Bool, true, false, ◌||◌}
 use lib.Dec.{leb}
 use Rattle.model.specs.Numbers.{malformed}
 use Rattle.model.specs.Bytes.{Bytes, num, bit}
-use Rattle.model.specs.Tree.{layout, zone_map, any_i32}
+use Rattle.model.specs.Tree.{Params, layout, zone_map, any_i32}
 use Rattle.model.specs.Tree.Params.{items, timestamp}
 use Rattle.model.specs.Read as read
 use Rattle.model.specs.Read.{got, next, judged, unless, if_set, anything, is_text, param_fits, read_item, read_number, read_zone, read_params}
 use Rattle.model.proofs.Items.{item_law}
-use Rattle.sheet.specs.Answers.{step_of}
-use Rattle.layout.specs.Kinds.{params_by}
-use Rattle.sheet.specs.declared.Step.{Step}
+use Rattle.std.specs.Prelude.{Ok}
+use Rattle.sheet.specs.Answers.{Step, step_of}
 use Rattle.sheet.proofs.Ways.{step_made, next_next, next_alike}
 
 -- a number is an item of which the bytes are forgotten
@@ -70,30 +69,15 @@ wide_way r s lim at h =
     one_way r s lim any_i32 at (h ∙ sym (step_made (λ b. b) (read_item s lim 4 anything at))
     ∙ next_alike (read_item s lim 4 anything at) _ _ (λ b e. sym (passes b e (leb (num b) 0))) ∙ ap step_of (sym (item_law s lim 4 (param_fits any_i32) at)))
   where
-    passes : (b : Bytes) (e : ℕ) (t : Bool) → step_of (judged (unless (t || true) 2) at b e) ≡ Step.Next e
+    passes : (b : Bytes) (e : ℕ) (t : Bool) → step_of (judged (unless (t || true) 2) at b e) ≡ Ok e
     passes b e true = refl
     passes b e false = refl
 
 -- by the kind of the code's parameters
-pub params_way : (r : Step) (s : Bytes) (lim at code k v : ℕ) → params_by k ≡ (layout code).params → k ≡ v → r ≡ step_of (read_params s lim (params_by v) at)
+pub params_way : (r : Step) (s : Bytes) (lim at code : ℕ) (k : Params) → k ≡ (layout code).params → r ≡ step_of (read_params s lim k at)
     → r ≡ step_of (read_params s lim (layout code).params at)
-params_way r s lim at code k v h e t = t ∙ ap (λ n. step_of (read_params s lim (params_by n) at)) (sym e) ∙ ap (λ p. step_of (read_params s lim p at)) h
+params_way r s lim at code k h t = t ∙ ap (λ p. step_of (read_params s lim p at)) h
 
-pub none_way : (s : Bytes) (lim at : ℕ) → Step.Next at ≡ step_of (read_params s lim (items []) at)
+pub none_way : (s : Bytes) (lim at : ℕ) → Ok at ≡ step_of (read_params s lim (items []) at)
 unfolding read_params
 none_way s lim at = refl
-
--- the kinds past 5 are precision and scale
-pub last_params : (k : ℕ) → (k ≡ 0 → ⊥) → (k ≡ 1 → ⊥) → (k ≡ 2 → ⊥) → (k ≡ 3 → ⊥) → (k ≡ 4 → ⊥) → (k ≡ 5 → ⊥) → params_by k ≡ params_by 6
-unfolding params_by
-last_params zero a b c d e f = absurd (a refl)
-last_params (suc zero) a b c d e f = absurd (b refl)
-last_params (suc (suc zero)) a b c d e f = absurd (c refl)
-last_params (suc (suc (suc zero))) a b c d e f = absurd (d refl)
-last_params (suc (suc (suc (suc zero)))) a b c d e f = absurd (e refl)
-last_params (suc (suc (suc (suc (suc zero))))) a b c d e f = absurd (f refl)
-last_params (suc (suc (suc (suc (suc (suc k)))))) a b c d e f = refl
-
-pub last_way : (r : Step) (s : Bytes) (lim at code k : ℕ) → params_by k ≡ (layout code).params → params_by k ≡ params_by 6 → r ≡ step_of (read_params s lim (params_by 6) at)
-    → r ≡ step_of (read_params s lim (layout code).params at)
-last_way r s lim at code k h e t = t ∙ ap (λ p. step_of (read_params s lim p at)) (sym e ∙ h)

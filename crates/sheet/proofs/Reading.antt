@@ -12,9 +12,11 @@ use Rattle.model.specs.WellFormed.{Fits}
 use Rattle.model.specs.Call.{Answer, refused, and_then}
 use Rattle.model.proofs.Steps.{Holds, of_got}
 use Rattle.model.proofs.WholeSheets.{sheet_exact, train_exact}
-use Rattle.sheet.specs.declared.Step.{Step}
+use Rattle.std.specs.Prelude.{Result, Ok, Err}
+use Rattle.buffer.specs.declared.refusal.Refusal.{Refusal}
+use Rattle.buffer.specs.Refusals.{number_of, numbered}
 use Rattle.sheet.specs.Answers.{step_of}
-use Rattle.sheet.proofs.Ways.{step_is, step_no}
+use Rattle.sheet.proofs.Ways.{step_is, step_no, told_ok, told_err}
 
 -- the bytes are the sheet of a schema, to which the operation answers
 pub record Whole (s : Bytes) (f : Schema → Answer) : Type 0 where
@@ -23,15 +25,15 @@ pub record Whole (s : Bytes) (f : Schema → Answer) : Type 0 where
   pub fits : Fits schema
   pub outcome : and_then (read_sheet s) f ≡ f schema
 
-module _ (s : Bytes) (f : Schema → Answer) {r : Step} (e : r ≡ step_of (read_sheet s)) where
-  pub sheet_refused : {n p : ℕ} → r ≡ Step.Refused n p → and_then (read_sheet s) f ≡ refused n p
+module _ (s : Bytes) (f : Schema → Answer) {r : Result ℕ Refusal} (e : numbered r ≡ step_of (read_sheet s)) where
+  pub sheet_refused : {x : Refusal} → r ≡ Err x → and_then (read_sheet s) f ≡ refused (number_of x.0) x.1
   unfolding and_then
-  sheet_refused h = ap (λ q. and_then q f) (step_no (read_sheet s) e h)
+  sheet_refused h = ap (λ q. and_then q f) (step_no (read_sheet s) e (told_err h))
 
-  pub sheet_whole : AreBytes s → {end : ℕ} → r ≡ Step.Next end → Whole s f
+  pub sheet_whole : AreBytes s → {end : ℕ} → r ≡ Ok end → Whole s f
   unfolding and_then
   sheet_whole b {end} h =
-      let (x, i) = step_is (read_sheet s) e h in
+      let (x, i) = step_is (read_sheet s) e (told_ok h) in
       let w = of_got (subst (Holds (λ x k. (s ≡ sheet_bytes x) × Fits x)) i (sheet_exact s b)) in
       record { schema = x; bytes = w.0; fits = w.1; outcome = ap (λ q. and_then q f) i }
 
@@ -45,14 +47,14 @@ pub record WholeTrain (s : Bytes) (f : List Schema → Answer) : Type 0 where
   pub count : length schemas ≤ max_sheets
   pub outcome : and_then (read_train s) f ≡ f schemas
 
-module _ (s : Bytes) (f : List Schema → Answer) {r : Step} (e : r ≡ step_of (read_train s)) where
-  pub train_refused : {n p : ℕ} → r ≡ Step.Refused n p → and_then (read_train s) f ≡ refused n p
+module _ (s : Bytes) (f : List Schema → Answer) {r : Result ℕ Refusal} (e : numbered r ≡ step_of (read_train s)) where
+  pub train_refused : {x : Refusal} → r ≡ Err x → and_then (read_train s) f ≡ refused (number_of x.0) x.1
   unfolding and_then
-  train_refused h = ap (λ q. and_then q f) (step_no (read_train s) e h)
+  train_refused h = ap (λ q. and_then q f) (step_no (read_train s) e (told_err h))
 
-  pub train_whole : AreBytes s → {end : ℕ} → r ≡ Step.Next end → WholeTrain s f
+  pub train_whole : AreBytes s → {end : ℕ} → r ≡ Ok end → WholeTrain s f
   unfolding and_then
   train_whole b {end} h =
-      let (xs, i) = step_is (read_train s) e h in
+      let (xs, i) = step_is (read_train s) e (told_ok h) in
       let w = of_got (subst (Holds (λ xs k. (s ≡ each sheet_bytes xs) × Every Fits xs × (length xs ≤ max_sheets))) i (train_exact s b)) in
       record { schemas = xs; bytes = w.0; fits = w.1; count = w.2; outcome = ap (λ q. and_then q f) i }

@@ -9,17 +9,16 @@ use lib.Dec.{ltb}
 use borrow.Author.Tests.{lt-ltb, le-leb, lt-leb}
 use Rattle.model.specs.Numbers.{too_deep, max_sheet_bytes}
 use Rattle.model.specs.Bytes.{Bytes, bit, choose}
-use Rattle.model.specs.Tree.{Schema, DataType, layout}
-use Rattle.model.specs.Tree.Children.{fields, key_and_value, counted_with_ids}
+use Rattle.model.specs.Tree.{Schema, DataType, Children, layout}
+use Rattle.model.specs.Tree.Children.{fields, key_and_value}
 use Rattle.model.specs.Read as read
 use Rattle.model.specs.Read.{got, bad, Reader, next, judged, unless, ◌then◌, anything, at_most, map_fits, code_fits, if_set, read_list, read_column, read_schema, read_sheets, read_sheet, shifted, read_two, read_item, read_number, read_text, read_metadata, read_dict_id, read_many, read_field, read_bare_type, read_children, read_params, read_type}
 use Rattle.model.proofs.Items.{number_law}
 use Rattle.model.proofs.Places.{Inside, at_end, at_refusal, sheet_inside}
-use Rattle.sheet.specs.Answers.{step_of, cursor_at}
+use Rattle.std.specs.Prelude.{Ok, Err}
+use Rattle.sheet.specs.Answers.{Step, step_of, cursor_at}
 use Rattle.sheet.specs.declared.Cursor.{Cursor}
-use Rattle.layout.specs.Kinds.{children_by}
 use Rattle.sheet.specs.Shapes.{read_head, read_shape}
-use Rattle.sheet.specs.declared.Step.{Step}
 use Rattle.sheet.proofs.Ways.{step_is, step_no, step_made, next_next, next_alike}
 
 -- A field's id does not show
@@ -62,7 +61,7 @@ module _ {A : Type 0} (rd : Reader A) where
   many_at (suc n) at h = let w : suc n - 1 ≡ n = omega arith in many_turn n at ∙ ap (λ m. step_of (next (rd at) (λ a e. read_many m (λ seen. rd) [] e))) (sym w)
 
   module _ (place left : ℕ) (whole : Step) (inv : step_of (read_many left (λ seen. rd) [] place) ≡ whole) where
-    pub many_done : left ≤ 0 → Step.Next place ≡ whole
+    pub many_done : left ≤ 0 → Ok place ≡ whole
     unfolding read_many
     many_done h = let z : left ≡ 0 = omega (arith, h) in ap (λ n. step_of (read_many n (λ seen. rd) [] place)) (sym z) ∙ inv
 
@@ -70,11 +69,11 @@ module _ {A : Type 0} (rd : Reader A) where
       abbrev rest : A → ℕ → read.Step (List A)
       rest a e = read_many (left - 1) (λ seen. rd) [] e
 
-      pub many_stop : (k q : ℕ) → i ≡ Step.Refused k q → i ≡ whole
+      pub many_stop : (k q : ℕ) → i ≡ Err (k, q) → i ≡ whole
       unfolding next
       many_stop k q h = h ∙ ap (λ g. step_of (next g rest)) (sym (step_no (rd place) p h)) ∙ sym (many_at left place more) ∙ inv
 
-      pub many_again : (e : ℕ) → i ≡ Step.Next e → step_of (read_many (left - 1) (λ seen. rd) [] e) ≡ whole
+      pub many_again : (e : ℕ) → i ≡ Ok e → step_of (read_many (left - 1) (λ seen. rd) [] e) ≡ whole
       unfolding next
       many_again e h = ap (λ g. step_of (next g rest)) (sym (step_is (rd place) p h).1) ∙ sym (many_at left place more) ∙ inv
 
@@ -121,32 +120,9 @@ type_way r s lim (suc l) o at h = h ∙ one_more s lim l o at
 
 -- Children by their kind
 
-pub children_way : (r : Step) (s : Bytes) (lim l at code k v : ℕ) → children_by k ≡ (layout code).children → k ≡ v → r ≡ step_of (read_children s lim l (read_type s lim l) (children_by v) at)
+pub children_way : (r : Step) (s : Bytes) (lim l at code : ℕ) (k : Children) → k ≡ (layout code).children → r ≡ step_of (read_children s lim l (read_type s lim l) k at)
     → r ≡ step_of (read_children s lim l (read_type s lim l) (layout code).children at)
-children_way r s lim l at code k v h e t = t ∙ ap (λ n. step_of (read_children s lim l (read_type s lim l) (children_by n) at)) (sym e) ∙ ap (λ c. step_of (read_children s lim l (read_type s lim l) c at)) h
-
-pub no_children : (s : Bytes) (lim l at : ℕ) → Step.Next at ≡ step_of (read_children s lim l (read_type s lim l) (fields 0) at)
-unfolding read_children read_many
-no_children s lim l at = refl
-
-pub one_child : (r : Step) (s : Bytes) (lim l at : ℕ) → r ≡ step_of (read_field s lim l (read_type s lim l) 0 at) → r ≡ step_of (read_children s lim l (read_type s lim l) (fields 1) at)
-unfolding read_children read_many next
-one_child r s lim l at h = h ∙ sym (step_made (λ f. f ∷ []) (read_field s lim l (read_type s lim l) 0 at))
-
--- the kinds past 4 are counted with ids
-pub last_children : (k : ℕ) → (k ≡ 0 → ⊥) → (k ≡ 1 → ⊥) → (k ≡ 2 → ⊥) → (k ≡ 3 → ⊥) → (k ≡ 4 → ⊥) → children_by k ≡ children_by 5
-unfolding children_by
-last_children zero a b c d e = absurd (a refl)
-last_children (suc zero) a b c d e = absurd (b refl)
-last_children (suc (suc zero)) a b c d e = absurd (c refl)
-last_children (suc (suc (suc zero))) a b c d e = absurd (d refl)
-last_children (suc (suc (suc (suc zero)))) a b c d e = absurd (e refl)
-last_children (suc (suc (suc (suc (suc k))))) a b c d e = refl
-
-pub union_way : (r : Step) (s : Bytes) (lim l at code k : ℕ) → children_by k ≡ (layout code).children → children_by k ≡ children_by 5 → r ≡ step_of (read_children s lim l (read_type s lim l) counted_with_ids at)
-    → r ≡ step_of (read_children s lim l (read_type s lim l) (layout code).children at)
-unfolding children_by
-union_way r s lim l at code k h e t = t ∙ ap (λ c. step_of (read_children s lim l (read_type s lim l) c at)) (sym e ∙ h)
+children_way r s lim l at code k h t = t ∙ ap (λ c. step_of (read_children s lim l (read_type s lim l) c at)) h
 
 -- a Dictionary's two types
 pub dictionary_way : (r : Step) (s : Bytes) (lim l at : ℕ) → r ≡ step_of (next (read_type s lim l false at) (λ t e. read_type s lim l false e))
@@ -157,10 +133,10 @@ dictionary_way r s lim l at h =
     ∙ ap step_of (sym (next_next (read_type s lim l false at) _ (λ a e. read_bare_type s lim l (read_type s lim l) e)))
     ∙ sym (many_two (read_bare_type s lim l (read_type s lim l)) at)
 
-pub two_children : (r : Step) (s : Bytes) (lim l at : ℕ) → r ≡ step_of (read_many 2 (λ seen. read_field s lim l (read_type s lim l) 0) [] at)
-    → r ≡ step_of (read_children s lim l (read_type s lim l) (fields 2) at)
+pub fields_way : (r : Step) (s : Bytes) (lim l n at : ℕ) → r ≡ step_of (read_many n (λ seen. read_field s lim l (read_type s lim l) 0) [] at)
+    → r ≡ step_of (read_children s lim l (read_type s lim l) (fields n) at)
 unfolding read_children
-two_children r s lim l at h = h
+fields_way r s lim l n at h = h
 
 -- A sheet
 
@@ -191,22 +167,22 @@ sheets_turn s (suc n) at h k =
     (next_alike (read_schema s (at + max_sheet_bytes) at) _ _ (λ x e. step_made (λ xs. x ∷ xs) (read_sheets s n e)) ∙ ap (λ m. step_of (next (read_schema s (at + max_sheet_bytes) at) (λ x e. read_sheets s m e))) (sym w))
 
 module _ (s : Bytes) (left at : ℕ) (whole : Step) (inv : step_of (read_sheets s left at) ≡ whole) where
-  pub train_done : length s ≤ at → Step.Next at ≡ whole
+  pub train_done : length s ≤ at → Ok at ≡ whole
   train_done h = sym (ap step_of (sheets_end s left at h)) ∙ inv
 
   module _ (more : at < length s) where
-    pub train_full : left ≤ 0 → Step.Refused 33 at ≡ whole
+    pub train_full : left ≤ 0 → Err (33, at) ≡ whole
     train_full k = let z : left ≡ 0 = omega (arith, k) in sym (ap (λ n. step_of (read_sheets s n at)) z ∙ ap step_of (sheets_full s at more)) ∙ inv
 
     module _ (some : 0 < left) (i : Step) (p : i ≡ step_of (read_schema s (at + max_sheet_bytes) at)) where
       abbrev others : Schema → ℕ → read.Step (List Schema)
       others x e = read_sheets s (left - 1) e
 
-      pub train_stop : (k q : ℕ) → i ≡ Step.Refused k q → i ≡ whole
+      pub train_stop : (k q : ℕ) → i ≡ Err (k, q) → i ≡ whole
       unfolding next
       train_stop k q h = h ∙ ap (λ g. step_of (next g others)) (sym (step_no (read_schema s (at + max_sheet_bytes) at) p h)) ∙ sym (sheets_turn s left at more some) ∙ inv
 
-      pub train_again : (e : ℕ) → i ≡ Step.Next e → step_of (read_sheets s (left - 1) e) ≡ whole
+      pub train_again : (e : ℕ) → i ≡ Ok e → step_of (read_sheets s (left - 1) e) ≡ whole
       unfolding next
       train_again e h = ap (λ g. step_of (next g others)) (sym (step_is (read_schema s (at + max_sheet_bytes) at) p h).1) ∙ sym (sheets_turn s left at more some) ∙ inv
 
@@ -217,14 +193,14 @@ from_cursor s place c i e h = h ∙ ap (λ (c : Cursor). step_of (read_schema s 
 -- Two sheets
 
 -- where the reading of a sheet stops lies inside it
-pub sheet_ends : (s : Bytes) (i : Step) (e : ℕ) → i ≡ step_of (read_sheet s) → i ≡ Step.Next e → e ≤ length s
+pub sheet_ends : (s : Bytes) (i : Step) (e : ℕ) → i ≡ step_of (read_sheet s) → i ≡ Ok e → e ≤ length s
 sheet_ends s i e p h = go (read_sheet s) (step_is (read_sheet s) p h).1 (sheet_inside s)
   where
     go : (g : read.Step Schema) {x : Schema} → g ≡ got x e → Inside (length s) g → e ≤ length s
     go g q (at_end {e = m} w) = let z : m ≡ e = cc in omega (arith, w, z)
     go g q (at_refusal w) = let z : ◌≡◌ {A = ℕ} 0 1 = cc in absurd (omega arith)
 
-pub sheet_stops : (s : Bytes) (i : Step) (k p : ℕ) → i ≡ step_of (read_sheet s) → i ≡ Step.Refused k p → p ≤ length s
+pub sheet_stops : (s : Bytes) (i : Step) (k p : ℕ) → i ≡ step_of (read_sheet s) → i ≡ Err (k, p) → p ≤ length s
 sheet_stops s i k p q h = go (read_sheet s) (step_no (read_sheet s) q h) (sheet_inside s)
   where
     go : (g : read.Step Schema) → g ≡ bad k p → Inside (length s) g → p ≤ length s
@@ -237,21 +213,21 @@ second s t x e = next (shifted (length s) (read_sheet t)) (λ y e. got (x, y) e)
 abbrev both : Schema → Schema → Schema × Schema
 both x y = (x, y)
 
-module _ (s t : Bytes) (i j : Step) (m : ℕ) (p : i ≡ step_of (read_sheet s)) (h : i ≡ Step.Next m) (q : j ≡ step_of (read_sheet t)) where
+module _ (s t : Bytes) (i j : Step) (m : ℕ) (p : i ≡ step_of (read_sheet s)) (h : i ≡ Ok m) (q : j ≡ step_of (read_sheet t)) where
   two_first : step_of (shifted (length s) (read_sheet t)) ≡ step_of (read_two s t)
   unfolding read_two next
   two_first =
       let (x, w) = step_is (read_sheet s) p h in
       sym (step_made (both x) (shifted (length s) (read_sheet t))) ∙ ap (λ g. step_of (next g (second s t))) (sym w)
 
-  pub two_done : (e : ℕ) → j ≡ Step.Next e → Step.Next (length s + e) ≡ step_of (read_two s t)
+  pub two_done : (e : ℕ) → j ≡ Ok e → Ok (length s + e) ≡ step_of (read_two s t)
   unfolding shifted
   two_done e k = ap (λ g. step_of (shifted (length s) g)) (sym (step_is (read_sheet t) q k).1) ∙ two_first
 
-  pub two_stop : (k n : ℕ) → j ≡ Step.Refused k n → Step.Refused k (length s + n) ≡ step_of (read_two s t)
+  pub two_stop : (k n : ℕ) → j ≡ Err (k, n) → Err (k, length s + n) ≡ step_of (read_two s t)
   unfolding shifted
   two_stop k n w = ap (λ g. step_of (shifted (length s) g)) (sym (step_no (read_sheet t) q w)) ∙ two_first
 
-pub two_refused : (s t : Bytes) (i : Step) (k n : ℕ) → i ≡ step_of (read_sheet s) → i ≡ Step.Refused k n → i ≡ step_of (read_two s t)
+pub two_refused : (s t : Bytes) (i : Step) (k n : ℕ) → i ≡ step_of (read_sheet s) → i ≡ Err (k, n) → i ≡ step_of (read_two s t)
 unfolding read_two next
 two_refused s t i k n p h = h ∙ ap (λ g. step_of (next g (second s t))) (sym (step_no (read_sheet s) p h))

@@ -22,8 +22,8 @@ use Rattle.sheet.specs.declared.Step.{Step}
 use Rattle.table.specs.Held.{Held}
 use Rattle.table.specs.Table.{no_place, no_entry, u24, none, SpellSchema}
 use Rattle.table.specs.Says.{Says}
-use Rattle.table.specs.declared.Merged as table
-use Rattle.table.specs.declared.Merged.TheVariants.{Used, Clash}
+use Rattle.table.specs.Says as table
+use Rattle.std.proofs.Common.{Ok, Err}
 use Rattle.table.proofs.Held.{held_stands}
 use Rattle.table.proofs.Places.{places_none}
 use Rattle.try_merge.specs.Claims.{empty_table, added, BeginsTable, MergesSheet, Spelt, MergesSheets}
@@ -168,7 +168,7 @@ module _ (parked : Bool) where
           go [] h = absurd (omega (arith, h, before))
           go (y ∷ ys) h = (y, ys, refl)
 
-      pub merging_stop : {n : ℕ} → r ≡ Clash n → MergesSheets parked s w₀ w₁ (Step.Refused n sheet)
+      pub merging_stop : {n : ℕ} → r ≡ Err n → MergesSheets parked s w₀ w₁ (Step.Refused n sheet)
       merging_stop {n} c = record {
         same_length = g.same_length ∙ m.same;
         merges = λ xs e f k one room.
@@ -183,7 +183,7 @@ module _ (parked : Bool) where
           never : {x : Schema} {i j k : ℕ} → ◌≡◌ {A = read.Step Schema} (bad i j) (got x k) → ⊥
           never e = let z : ◌≡◌ {A = ℕ} 0 1 = cc in omega arith
 
-      pub merging_again : {end behind : ℕ} → r ≡ Used end → SkipsSheet s place behind → Merging s w₀ w₁ end behind (sheet + 1)
+      pub merging_again : {end behind : ℕ} → r ≡ Ok end → SkipsSheet s place behind → Merging s w₀ w₁ end behind (sheet + 1)
       merging_again {end} {behind} c sk = record {
         same = g.same_length ∙ m.same;
         so = λ xs e f k one room.

@@ -13,7 +13,7 @@ use Rattle.sheet.specs.declared.Step.{Step}
 use Rattle.table.specs.Held.{Held}
 use Rattle.table.specs.Table.{u24, no_place, no_entry, SpellSchema}
 use Rattle.table.specs.Becomes.{Becomes}
-use Rattle.table.specs.declared.Merged.{Merged}
+use Rattle.table.specs.Says.{Merged}
 
 -- the table of the empty schema
 abbrev pub empty_table : Bytes

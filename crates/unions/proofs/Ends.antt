@@ -2,12 +2,12 @@
 use Prim.Native.Nat.{ℕ, suc, ◌+◌, ◌≤◌, ◌<◌}
 use native.Mathlib.Omega.{arith}
 use native.Mathlib.Numerals.{add-one}
-use mathlib.Core.Path.{◌≡◌, refl, ap, ◌∙◌}
+use mathlib.Core.Path.{◌≡◌, refl, ap}
 use mathlib.Core.List.{[]}
 use lib.ListN.{length, take, set}
 use lib.Seq.{take-suc-set}
 use borrow.Author.Tests.{le-leb, lt-leb}
-use Rattle.model.specs.Numbers.{max_type_id, too_many_fields}
+use Rattle.model.specs.Numbers.{max_type_id}
 use Rattle.model.specs.Bytes.{Bytes}
 use Rattle.model.specs.Read.{Step, got, bad}
 use Rattle.model.specs.Unions.{try_new, try_from_fields, ids_from}
@@ -15,13 +15,13 @@ use Rattle.model.specs.Call.{Answer, bytes, refused, and_then, try_new_answer, t
 use Rattle.model.proofs.Steps.{Holds, of_got}
 use Rattle.model.proofs.Gives.{choose_true, choose_false}
 use Rattle.model.proofs.Unions.{try_new_ids, ids_from_next, take_ids_from}
-use Rattle.buffer.specs.declared.Outcome.{Outcome}
-use Rattle.buffer.specs.Leaves.{leaves, refused_with}
+use Rattle.std.specs.Prelude.{Result, Ok, Err}
+use Rattle.buffer.specs.declared.refusal.Number.{Number}
+use Rattle.buffer.specs.declared.refusal.Refusal.{Refusal}
+use Rattle.buffer.specs.Refusals.{number_of, numbered, without_place}
+use Rattle.buffer.specs.Leaves.{leaves}
 use Rattle.buffer.proofs.Ends.{call_refused, call_answered}
-use Rattle.unions.specs.Answers.{checked_of, up_of}
-use Rattle.unions.specs.declared.Checked.{Checked}
-use Rattle.unions.specs.declared.Checked.TheVariants.{Valid, Refused}
-use Rattle.unions.specs.declared.Position.{Position}
+use Rattle.unions.specs.Answers.{checked_of}
 
 -- The ids from 0 on
 
@@ -34,42 +34,42 @@ ids_turn ids id i e w h =
 -- A call without a sheet: its refusal, its answer
 
 module _ (outcome : Answer) (answer : Bytes) where
-  refusal_ends : {r : Outcome} {n p : ℕ} → outcome ≡ refused n p → r ≡ refused_with n p → leaves r answer [] ≡ call 0 outcome [] answer
+  refusal_ends : {r : Result ℕ Refusal} {x : Refusal} → outcome ≡ refused (number_of x.0) x.1 → r ≡ Err x → leaves r answer [] ≡ call 0 outcome [] answer
   unfolding zeros
-  refusal_ends o e = call_refused 0 outcome [] answer refl refl o e refl
+  refusal_ends o e = call_refused 0 outcome [] answer {room = Ok tt} refl refl o e refl
 
   answer_ends : {x : Exit} {b : Bytes} → outcome ≡ bytes b → x ≡ acceptance b [] answer → x ≡ call 0 outcome [] answer
   unfolding zeros
-  answer_ends o e = call_answered 0 outcome [] answer refl refl o e
+  answer_ends o e = call_answered 0 outcome [] answer {room = Ok tt} refl refl o e
 
 -- `try_new`
 
-module _ (answer : Bytes) {k : Checked} where
-  step_refused : (g : Step Bytes) {r : Outcome} {n : ℕ} {p : Position} → k ≡ checked_of g → k ≡ Refused n p → r ≡ up_of k
+module _ (answer : Bytes) {k : Result Unit Refusal} where
+  step_refused : (g : Step Bytes) {r : Result ℕ Refusal} {x : Refusal} → numbered k ≡ checked_of g → k ≡ Err x → r ≡ Err x
       → leaves r answer [] ≡ call 0 (and_then g bytes) [] answer
   unfolding and_then
-  step_refused (got b e) q h u = cc
-  step_refused (bad m x) q h u = refusal_ends (refused m x) answer refl (u ∙ ap up_of q)
+  step_refused (got b e) q h u = let z = ap numbered h in cc
+  step_refused (bad m p) {x = x} q h u = refusal_ends (refused m p) answer (let e : ◌≡◌ {A = ℕ × ℕ} (m, p) (number_of x.0, x.1) = let z = ap numbered h in cc in ap (λ (r : ℕ × ℕ). refused r.0 r.1) e) u
 
-  step_valid : {ids : Bytes} (g : Step Bytes) {x : Exit} → Holds (λ b e. b ≡ ids) g → k ≡ checked_of g → k ≡ Valid → x ≡ acceptance ids [] answer
+  step_valid : {ids : Bytes} (g : Step Bytes) {x : Exit} → Holds (λ b e. b ≡ ids) g → numbered k ≡ checked_of g → k ≡ Ok tt → x ≡ acceptance ids [] answer
       → x ≡ call 0 (and_then g bytes) [] answer
   unfolding and_then
   step_valid (got b e) w q h u = answer_ends (bytes b) answer (ap bytes (of_got w)) u
-  step_valid (bad m x) w q h u = cc
+  step_valid (bad m x) w q h u = let z = ap numbered h in cc
 
-module _ (ids : Bytes) (count : ℕ) (answer : Bytes) {k : Checked} (e : k ≡ checked_of (try_new ids count [] 0)) where
-  pub new_refused : {r : Outcome} {n : ℕ} {p : Position} → k ≡ Refused n p → r ≡ up_of k → leaves r answer [] ≡ call 0 (try_new_answer ids count) [] answer
+module _ (ids : Bytes) (count : ℕ) (answer : Bytes) {k : Result Unit Refusal} (e : numbered k ≡ checked_of (try_new ids count [] 0)) where
+  pub new_refused : {r : Result ℕ Refusal} {x : Refusal} → k ≡ Err x → r ≡ Err x → leaves r answer [] ≡ call 0 (try_new_answer ids count) [] answer
   unfolding try_new_answer
   new_refused h u = step_refused answer (try_new ids count [] 0) e h u
 
-  pub new_accepted : {x : Exit} → k ≡ Valid → x ≡ acceptance ids [] answer → x ≡ call 0 (try_new_answer ids count) [] answer
+  pub new_accepted : {x : Exit} → k ≡ Ok tt → x ≡ acceptance ids [] answer → x ≡ call 0 (try_new_answer ids count) [] answer
   unfolding try_new_answer
   new_accepted h u = step_valid answer (try_new ids count [] 0) (try_new_ids ids count [] 0) e h u
 
 -- `try_from_fields`
 
 module _ (count : ℕ) (answer : Bytes) where
-  pub from_fields_refused : {r : Outcome} → suc max_type_id < count → r ≡ refused_with too_many_fields 0 → leaves r answer [] ≡ call 0 (try_from_fields_answer count) [] answer
+  pub from_fields_refused : {r : Result ℕ Refusal} → suc max_type_id < count → r ≡ Err (without_place Number.TooManyFields) → leaves r answer [] ≡ call 0 (try_from_fields_answer count) [] answer
   unfolding try_from_fields_answer try_from_fields and_then
   from_fields_refused h e = refusal_ends _ answer (ap (λ r. and_then r bytes) (choose_false _ _ _ (lt-leb count (suc max_type_id) h))) e
 

@@ -1,3 +1,4 @@
 -- The laws that the proofs of `unions` lean on.
+pub mod Search
 pub mod Walk
 pub mod Ends

@@ -4,17 +4,18 @@
 // The look-up of an equal field compares fields: datatype has it.
 #![tactic(auto)]
 
-ghost use Rattle.std.specs.Prelude.{◌≡◌, [], suc, ◌+◌, ◌≤◌, eqb, get_or, set};
+ghost use Rattle.std.specs.Prelude.{◌≡◌, [], suc, ◌+◌, ◌≤◌, eqb, get_or, set, true, false};
 ghost use Rattle.model.specs.Numbers.{max_type_id};
 ghost use Rattle.model.specs.Bytes.{position};
 ghost use Rattle.model.specs.Read.{judged};
 ghost use Rattle.model.specs.Unions.{try_new, ids_from};
 ghost use Rattle.model.specs.Call.{try_new_call, try_from_fields_call};
+ghost use Rattle.buffer.specs.Refusals.{numbered};
 ghost use Rattle.buffer.specs.Leaves.{leaves};
-ghost use Rattle.unions.specs.Answers.{checked_of, up_of, found_of};
+ghost use Rattle.unions.specs.Answers.{checked_of, found_of};
 ghost use Rattle.unions.specs.Seen.{id_fits_by, marked};
 
-use buffer::Outcome;
+use buffer::{Number, Refusal};
 
 // A union child's type id, 0 to 127.
 #[derive(Clone, Copy)]
@@ -24,31 +25,6 @@ pub struct TypeId(pub u8);
 #[derive(Clone, Copy)]
 pub struct Position(pub usize);
 
-// What the check of an id, or of a list of ids, answers: a refusal is its number and its place.
-#[derive(Clone, Copy)]
-pub enum Checked {
-    Valid,
-    Refused(u8, Position),
-}
-
-// What the look-up answers.
-#[derive(Clone, Copy)]
-pub enum Found {
-    At(Position),
-    Missing,
-}
-
-// The numbers of the refusals.
-const ID_TOO_LARGE: u8 = 6;
-
-const ID_REPEATED: u8 = 7;
-
-const MORE_FIELDS_THAN_IDS: u8 = 14;
-
-const MORE_IDS_THAN_FIELDS: u8 = 15;
-
-const TOO_MANY_FIELDS: u8 = 16;
-
 impl TypeId {
     // The largest i8, which is what the Rust holds an id in. A byte above it is a negative one.
     pub const LAST: u8 = 127;
@@ -57,79 +33,62 @@ impl TypeId {
     pub const COUNT: usize = 128;
 
     // Whether the flag of this id is set.
-    pub fn is_seen(self, seen: &[u8; TypeId::COUNT]) -> bool
+    pub fn is_seen(self, seen: &[bool; TypeId::COUNT]) -> bool
         requires { self.0 ≤ max_type_id }
-        ensures { result ≡ eqb (get_or seen.now self.0 0) 1 }
+        ensures { result ≡ get_or seen.now self.0 false }
     {
-        let i = self.0 as usize;
-        seen[i] == 1
+        seen[usize::from(self.0)]
     }
 
     // Sets the flag of this id.
-    pub fn mark(self, seen: &mut [u8; TypeId::COUNT])
+    pub fn mark(self, seen: &mut [bool; TypeId::COUNT])
         requires { self.0 ≤ max_type_id }
-        ensures { seen.new ≡ set seen.old self.0 1 }
+        ensures { seen.new ≡ set seen.old self.0 true }
     {
-        let i = self.0 as usize;
-        seen[i] = 1;
+        seen[usize::from(self.0)] = true;
     }
 }
 
 // One id of the list, after those whose flag is set: 6, then 7, or its own flag is set.
-fn check_id(seen: &mut [u8; TypeId::COUNT], id: u8, at: Position) -> Checked
-    ensures { (result ≡ checked_of (judged (id_fits_by seen.old id) at.0 id (at.0 + 1))) × (seen.new ≡ marked result seen.old id) }
+fn check_id(seen: &mut [bool; TypeId::COUNT], id: u8, at: Position) -> Result<(), Refusal>
+    ensures { (numbered result ≡ checked_of (judged (id_fits_by seen.old id) at.0 id (at.0 + 1))) × (seen.new ≡ marked result seen.old id) }
 {
     if TypeId::LAST < id {
-        return Checked::Refused(ID_TOO_LARGE, at);
+        return Err(Refusal(Number::IdTooLarge, at.0));
     }
     let id = TypeId(id);
     if id.is_seen(seen) {
-        return Checked::Refused(ID_REPEATED, at);
+        return Err(Refusal(Number::IdRepeated, at.0));
     }
     id.mark(seen);
-    Checked::Valid
+    Ok(())
 }
 
 // The ids and so many fields, side by side: an id refusal or a length refusal, "whichever is met first".
-fn check_ids(ids: &[u8], fields: usize) -> Checked
-    ensures { result ≡ checked_of (try_new ids.now fields [] 0) }
+fn check_ids(ids: &[u8], fields: usize) -> Result<(), Refusal>
+    ensures { numbered result ≡ checked_of (try_new ids.now fields [] 0) }
 {
-    let mut seen = [0u8; TypeId::COUNT];
-    let mut i = 0;
-    while i < ids.len() {
+    let mut seen = [false; TypeId::COUNT];
+    for (i, id) in ids.iter().enumerate() {
         if fields <= i {
-            return Checked::Refused(MORE_IDS_THAN_FIELDS, Position(0));
+            return Err(Refusal::from(Number::MoreIdsThanFields));
         }
-        let checked = check_id(&mut seen, ids[i], Position(i));
-        let Checked::Valid = checked else {
+        let checked = check_id(&mut seen, *id, Position(i));
+        let Ok(()) = checked else {
             return checked;
         };
-        i += 1;
     }
-    if i < fields {
-        return Checked::Refused(MORE_FIELDS_THAN_IDS, Position(0));
+    if ids.len() < fields {
+        return Err(Refusal::from(Number::MoreFieldsThanIds));
     }
-    Checked::Valid
-}
-
-// What a call gives that ends with this answer: a refusal passes upward with its number and place unchanged.
-fn up(c: Checked) -> Outcome
-    ensures { result ≡ up_of c }
-{
-    match c {
-        Checked::Valid => Outcome::accepted(0),
-        Checked::Refused(number, place) => Outcome::refused(number, place.0),
-    }
+    Ok(())
 }
 
 // `UnionFields::try_new`: "one takes id bytes and a u16 number of fields", and writes the ids, which are those given.
-pub fn try_new(ids: &[u8], count: u16, answer: &mut [u8]) -> Outcome
+pub fn try_new(ids: &[u8], count: u16, answer: &mut [u8]) -> Result<usize, Refusal>
     ensures { leaves result answer.new [] ≡ try_new_call ids.now count answer.old }
 {
-    let checked = check_ids(ids, count as usize);
-    let Checked::Valid = checked else {
-        return up(checked);
-    };
+    check_ids(ids, usize::from(count))?;
     buffer::write_answer(answer, ids)
 }
 
@@ -138,23 +97,21 @@ fn all_ids() -> [u8; TypeId::COUNT]
     ensures { result ≡ ids_from 0 (suc max_type_id) }
 {
     let mut ids = [0u8; TypeId::COUNT];
-    let mut id: u8 = 0;
-    let mut i = 0;
-    while i < TypeId::COUNT {
-        ids[i] = id;
-        id += 1;
-        i += 1;
+    let mut next: u8 = 0;
+    for id in ids.iter_mut() {
+        *id = next;
+        next += 1;
     }
     ids
 }
 
 // `UnionFields::try_from_fields`: "the other that number alone", and writes the ids, from 0 on.
-pub fn try_from_fields(count: u16, answer: &mut [u8]) -> Outcome
+pub fn try_from_fields(count: u16, answer: &mut [u8]) -> Result<usize, Refusal>
     ensures { leaves result answer.new [] ≡ try_from_fields_call count answer.old }
 {
-    let fields = count as usize;
+    let fields = usize::from(count);
     if TypeId::COUNT < fields {
-        return Outcome::refused(TOO_MANY_FIELDS, 0);
+        return Err(Refusal::from(Number::TooManyFields));
     }
     let ids = all_ids();
     buffer::write_answer(answer, &ids[..fields])
@@ -162,15 +119,8 @@ pub fn try_from_fields(count: u16, answer: &mut [u8]) -> Outcome
 
 // `UnionFields::find_by_type_id`, over the ids of a union's children: the position of the first that is equal. "Lookup by id and by
 // equal field stay inside", so no call has it.
-fn find_type_id(ids: &[u8], id: TypeId) -> Found
+fn find_type_id(ids: &[u8], id: TypeId) -> Option<Position>
     ensures { result ≡ found_of (position (λ i. eqb i id.0) ids.now) }
 {
-    let mut i = 0;
-    while i < ids.len() {
-        if ids[i] == id.0 {
-            return Found::At(Position(i));
-        }
-        i += 1;
-    }
-    Found::Missing
+    ids.iter().position(|i| *i == id.0).map(Position)
 }

@@ -1,11 +1,9 @@
--- `buffer::put_u16` meets its contract: two bytes, one behind the other.
-use mathlib.Core.Path.{refl, ◌∙◌}
-use native.Mathlib.Omega.{arith}
-use Rattle.model.specs.Bytes.{u16}
-use Rattle.buffer.proofs.Pasted.{pasted_join}
+-- `buffer::put_u16` meets its contract.
+use mathlib.Core.Path.{ap, ◌∙◌}
+use Rattle.buffer.specs.Buffer.{pasted}
+use Rattle.buffer.proofs.Puts.{two_bytes_lem}
 use Rattle.buffer.proofs.put_u16.Goals as goal
 
 pub returns : goal.returns
-unfolding u16
 returns c =
-    rw c.put_byte.ensures at c.put_byte-2.ensures ∙ pasted_join _ _ _ _ _ refl (omega arith)
+    c.copy_in.ensures ∙ ap (pasted c.args.dst.now c.args.at) (c.two_bytes.ensures ∙ two_bytes_lem c.args.v c.requires.1)

@@ -1,25 +1,25 @@
 -- `answer_comparison`: 32, a sheet refused, or the byte.
 use native.Mathlib.Omega.{arith}
-use Rattle.buffer.proofs.Ends.{call_short, call_refused, call_answered}
+use mathlib.Core.Path.{◌∙◌}
+use Rattle.buffer.proofs.Ends.{handed_up, call_short, call_refused, call_answered}
 use Rattle.datatype.specs.Comparisons.{compare_schema, compare_call}
-use Rattle.datatype.proofs.Calls.{two_refused, two_answered}
+use Rattle.datatype.proofs.Calls.{bool_flag, two_refused, two_answered}
 use Rattle.datatype.proofs.answer_comparison.Goals as goal
 
-pub returns-then-lacks_room_for_two : goal.returns-then-lacks_room_for_two
+pub returns-in_err-work_fits_two : goal.returns-in_err-work_fits_two
 unfolding compare_call
-returns-then-lacks_room_for_two c = call_short _ _ _ _ c.lacks_room_for_two.ensures c.if-lacks_room_for_two.true c.refused.ensures
+returns-in_err-work_fits_two c = call_short _ _ _ _ c.work_fits_two.ensures c.in_err-work_fits_two.was (handed_up _ c.from_residual.ensures.1)
 
-pub returns-in-Refused : goal.returns-in-Refused
+pub returns-in-Err : goal.returns-in-Err
 unfolding compare_call
-returns-in-Refused c =
-    call_refused _ _ _ _ c.lacks_room_for_two.ensures c.if-lacks_room_for_two.false (two_refused _ _ c.read_two-read.ensures c.in-Refused.is)
-    c.refuse.ensures.0 c.refuse.ensures.1
+returns-in-Err c =
+    call_refused _ _ _ _ c.work_fits_two.ensures c.in_ok-work_fits_two.was (two_refused _ _ c.read_two.ensures c.in-Err.is) c.refuse.ensures.0 c.refuse.ensures.1
 
-pub returns-in-Next : goal.returns-in-Next
+pub returns-in-Ok : goal.returns-in-Ok
 unfolding compare_call
-returns-in-Next c =
+returns-in-Ok c =
     let given = c.args in
-    call_answered _ _ _ _ c.lacks_room_for_two.ensures c.if-lacks_room_for_two.false
-    (two_answered (compare_schema _) given.sheet.now given.other.now (λ i. omega (arith, c.type_inv.sheet i)) (λ i. omega (arith, c.type_inv.other i)) c.read_two-read.ensures c.in-Next.is
-    c.compare_sheets.ensures c.yes_no.ensures)
+    call_answered _ _ _ _ c.work_fits_two.ensures c.in_ok-work_fits_two.was
+    (two_answered (compare_schema _) given.sheet.now given.other.now (λ i. omega (arith, c.type_inv.sheet i)) (λ i. omega (arith, c.type_inv.other i)) c.read_two.ensures c.in-Ok.is
+    c.compare_sheets.ensures (c.from.ensures ∙ bool_flag _))
     c.accept_byte.ensures

@@ -1,15 +1,12 @@
--- `find_by_type_id`: none of the children passed has the id.
-use Rattle.datatype.proofs.Finds.{id_begin, id_again, id_found, id_none}
+-- `find_by_type_id`: the byte at a child's place is its id.
+use lib.Dec.{eqb}
+use Rattle.std.proofs.Common.{rules}
+use Rattle.model.specs.Unions.{find_by_type_id}
+use Rattle.model.proofs.Lists.{every_map}
+use Rattle.walk.proofs.Standing.{byte_stands}
 use Rattle.datatype.proofs.find_by_type_id.Goals as goal
 
-pub loop-i-init : goal.loop-i-init
-loop-i-init c = id_begin _ _ _ _ _
-
-pub returns-then-byte-id : goal.returns-then-byte-id
-returns-then-byte-id c = id_found _ _ _ c.loop-i.invariant c.loop-i-test.true c.byte.ensures.0 c.if-byte-id.true
-
-pub loop-i-preserved : goal.loop-i-preserved
-loop-i-preserved c = id_again _ _ _ c.loop-i.invariant c.loop-i-test.true c.byte.ensures.0 c.if-byte-id.false c.ahead.ensures c.skip_field-place.ensures
-
 pub returns : goal.returns
-returns c = id_none _ _ _ c.loop-i.invariant c.loop-i-test.false
+unfolding find_by_type_id
+returns c = λ l ks h n w st.
+    c.find_child.ensures l (λ k. eqb k.head.type_id c.args.id) ks h n (every_map _ _ (λ k v. (v, λ place r u a. let e = byte_stands u in search rules)) ks w) st

@@ -1,10 +1,7 @@
--- `write_nested`: the bytes of the columns passed stand over the answer's beginning.
-use Prim.Native.Nat.{◌-◌}
+-- `write_nested`: the first bytes are those of the columns passed.
+use lib.ListN.{length}
 use Rattle.datatype.proofs.Nested.{NestedLoop}
 use Rattle.datatype.proofs.write_nested.Given as goal
 
-abbrev pub invariant-loop-i : goal.invariant-loop-i
-invariant-loop-i l = NestedLoop l.sheet l.at l.count l.initial.answer l.answer l.place l.i
-
-abbrev pub decreases-loop-i : goal.decreases-loop-i
-decreases-loop-i l = l.count - l.i
+abbrev pub invariant-loop-byte : goal.invariant-loop-byte
+invariant-loop-byte l = NestedLoop l.sheet l.at (length l.fn.answer) l.byte-items l.place l.byte-index

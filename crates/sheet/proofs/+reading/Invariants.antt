@@ -1,6 +1,6 @@
 use mathlib.Core.Path.{◌≡◌}
 use mathlib.Core.List.{[]}
-use Prim.Native.Nat.{◌+◌, ◌*◌}
+use Prim.Native.Nat.{◌+◌, ◌-◌, ◌*◌}
 use Rattle.model.specs.Read.{read_many, read_field, read_union_child, read_type}
 use Rattle.sheet.specs.Answers.{step_of}
 use Rattle.sheet.specs.Shapes.{read_members}
@@ -33,14 +33,8 @@ decreases-read_type l = 8 * l.levels + 0
 abbrev pub decreases-read_union : goal.decreases-read_union
 decreases-read_union l = 8 * l.levels + 3
 
-abbrev pub invariant-read_fields-loop-left : goal.invariant-read_fields-loop-left
-invariant-read_fields-loop-left l = step_of (read_many l.left (λ seen. read_field l.s l.lim l.levels (read_type l.s l.lim l.levels) 0) [] l.place) ≡ step_of (read_many l.count (λ seen. read_field l.s l.lim l.levels (read_type l.s l.lim l.levels) 0) [] l.at)
+abbrev pub invariant-read_fields-loop : goal.invariant-read_fields-loop
+invariant-read_fields-loop l = step_of (read_many (l.count - l.counter) (λ seen. read_field l.s l.lim l.levels (read_type l.s l.lim l.levels) 0) [] l.place) ≡ step_of (read_many l.count (λ seen. read_field l.s l.lim l.levels (read_type l.s l.lim l.levels) 0) [] l.at)
 
-abbrev pub decreases-read_fields-loop-left : goal.decreases-read_fields-loop-left
-decreases-read_fields-loop-left l = l.left
-
-abbrev pub invariant-read_members-loop-left : goal.invariant-read_members-loop-left
-invariant-read_members-loop-left l = step_of (read_members l.s l.lim l.levels l.used l.left l.place) ≡ step_of (read_many l.count (read_union_child l.s l.lim l.levels (read_type l.s l.lim l.levels)) [] l.at)
-
-abbrev pub decreases-read_members-loop-left : goal.decreases-read_members-loop-left
-decreases-read_members-loop-left l = l.left
+abbrev pub invariant-read_members-loop : goal.invariant-read_members-loop
+invariant-read_members-loop l = step_of (read_members l.s l.lim l.levels l.used (l.count - l.counter) l.place) ≡ step_of (read_many l.count (read_union_child l.s l.lim l.levels (read_type l.s l.lim l.levels)) [] l.at)

@@ -1,18 +1,21 @@
-use Rattle.sheet.proofs.Ways.{step_ends, step_far, body_text, body_broken}
+use Rattle.sheet.proofs.Ways.{raw_got, body_stop, body_text, body_broken}
 use native.Mathlib.Omega.{arith}
 use Rattle.sheet.proofs.read_body.Goals as goal
 
-pub returns-then-s-at : goal.returns-then-s-at
-returns-then-s-at c = step_ends _ _ _ _ _ (omega arith)
-
-pub returns-then-s-at-2 : goal.returns-then-s-at-2
-returns-then-s-at-2 c = step_ends _ _ _ _ _ (omega arith)
-
-pub returns-then-lim-end : goal.returns-then-lim-end
-returns-then-lim-end c = step_far _ _ _ _ _ (omega arith) (omega arith)
-
 pub returns-in_default : goal.returns-in_default
-returns-in_default c = body_broken _ _ _ _ (omega arith) (omega arith) _ c.check-text.ensures c.in_default.is
+returns-in_default c = body_stop _ _ _ _ c.read_raw-raw.ensures c.in_default.is
+
+pub slice_bounds-check-count : goal.slice_bounds-check-count
+slice_bounds-check-count c = omega (arith, (raw_got _ _ _ _ c.read_raw-raw.ensures c.in-Ok.is).ends)
+
+pub slice_bounds-check-start : goal.slice_bounds-check-start
+slice_bounds-check-start c = omega (arith, (raw_got _ _ _ _ c.read_raw-raw.ensures c.in-Ok.is).ends)
+
+pub slice_bounds-check-end : goal.slice_bounds-check-end
+slice_bounds-check-end c = let g = raw_got _ _ _ _ c.read_raw-raw.ensures c.in-Ok.is in omega (arith, g.ends, g.inside)
+
+pub returns-in_default-check : goal.returns-in_default-check
+returns-in_default-check c = body_broken _ _ _ _ c.read_raw-raw.ensures c.in-Ok.is c.check.ensures c.in_default-check.is
 
 pub returns : goal.returns
-returns c = body_text _ _ _ _ (omega arith) (omega arith) _ c.check-text.ensures c.in-Valid.is
+returns c = body_text _ _ _ _ c.read_raw-raw.ensures c.in-Ok.is c.check.ensures c.in-Ok-check.is

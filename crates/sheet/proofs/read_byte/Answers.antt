@@ -1,12 +1,14 @@
+-- `read_byte`: the byte as it stands is the number.
 use native.Mathlib.Omega.{arith}
-use Rattle.sheet.proofs.Ways.{num_ends, num_far, byte_fits}
+use mathlib.Core.Path.{◌∙◌}
+use Rattle.sheet.proofs.Ways.{raw_got, num_stop, num_read, one_byte}
 use Rattle.sheet.proofs.read_byte.Goals as goal
 
-pub returns-then-s-at : goal.returns-then-s-at
-returns-then-s-at c = num_ends _ _ _ _ (omega arith)
+pub returns-in_err-next : goal.returns-in_err-next
+returns-in_err-next c = num_stop _ _ _ _ c.read_raw.ensures _ _ c.in_err-next.was c.from_residual.ensures.1
 
-pub returns-then-lim-at : goal.returns-then-lim-at
-returns-then-lim-at c = num_far _ _ _ _ (omega arith) (omega arith)
+pub bounds-s-at : goal.bounds-s-at
+bounds-s-at c = omega (arith, (raw_got _ _ _ _ c.read_raw.ensures c.in_ok-next.was).inside)
 
 pub returns : goal.returns
-returns c = byte_fits _ _ _ _ c.wide.ensures.0 (omega arith) (omega arith)
+returns c = num_read _ _ _ _ c.read_raw.ensures c.in_ok-next.was (c.from.ensures ∙ one_byte _ _ (raw_got _ _ _ _ c.read_raw.ensures c.in_ok-next.was).inside)

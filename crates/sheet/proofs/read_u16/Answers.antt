@@ -1,15 +1,26 @@
+-- `read_u16`: two bytes as they stand, the low one first.
 use native.Mathlib.Omega.{arith}
-use Rattle.sheet.proofs.Ways.{num_ends, num_far, two_fits}
+use mathlib.Core.Path.{◌≡◌, ◌∙◌}
+use Prim.Native.Nat.{◌+◌, ◌*◌}
+use lib.ListN.{get_or}
+use Rattle.sheet.proofs.Ways.{raw_got, num_stop, num_read, two_bytes}
 use Rattle.sheet.proofs.read_u16.Goals as goal
 
-pub returns-then-s-at : goal.returns-then-s-at
-returns-then-s-at c = num_ends _ _ _ _ (omega arith)
+pub returns-in_err-next : goal.returns-in_err-next
+returns-in_err-next c = num_stop _ _ _ _ c.read_raw.ensures _ _ c.in_err-next.was c.from_residual.ensures.1
 
-pub returns-then-s-at-lt2 : goal.returns-then-s-at-lt2
-returns-then-s-at-lt2 c = num_ends _ _ _ _ (omega arith)
+pub bounds-s-at : goal.bounds-s-at
+bounds-s-at c = omega (arith, (raw_got _ _ _ _ c.read_raw.ensures c.in_ok-next.was).inside)
 
-pub returns-then-lim-at : goal.returns-then-lim-at
-returns-then-lim-at c = num_far _ _ _ _ (omega arith) (omega arith)
+pub overflow_add-at : goal.overflow_add-at
+overflow_add-at c = omega (arith, (raw_got _ _ _ _ c.read_raw.ensures c.in_ok-next.was).inside, c.well_formed.0.1)
+
+pub bounds-s-at-2 : goal.bounds-s-at-2
+bounds-s-at-2 c = omega (arith, (raw_got _ _ _ _ c.read_raw.ensures c.in_ok-next.was).inside)
 
 pub returns : goal.returns
-returns c = two_fits _ _ _ _ (rw (c.wide-high.ensures.0, c.wide-low.ensures.0)) (omega arith) (omega arith)
+returns c =
+    let s = c.args.s.now in
+    let at = c.args.at in
+    let e : c.from.result ≡ get_or s at 0 + 256 * get_or s (at + 1) 0 = omega arith in
+    num_read _ _ _ _ c.read_raw.ensures c.in_ok-next.was (e ∙ two_bytes _ _ (raw_got _ _ _ _ c.read_raw.ensures c.in_ok-next.was).inside)

@@ -1,20 +1,16 @@
--- `find_type_id`: no id passed is equal.
-use native.Mathlib.Omega.{arith}
-use mathlib.Core.Path.{sym, ap}
-use borrow.Author.Tests.{eq-eqb, ne_eqb}
-use Rattle.model.proofs.Search.{every_take_next, position_first, position_none}
-use Rattle.unions.specs.Answers.{found_of}
+-- `find_type_id`: the position that the iterator gives is the definition's.
+use mathlib.Core.Path.{◌≡◌, ap, ◌∙◌}
+use lib.Dec.{eqb}
+use Rattle.std.proofs.Common.{rules, tests}
+use Rattle.std.proofs.lemmas.Iterator.{YieldsList-from_slice}
+use Rattle.std.proofs.lemmas.Iterator.Search.{position_from_yields_List}
+use Rattle.std.specs.Option.{option_map}
+use Rattle.unions.proofs.Search.{position_found}
 use Rattle.unions.proofs.find_type_id.Goals as goal
 
-pub returns-then-ids-i : goal.returns-then-ids-i
-returns-then-ids-i c =
-    let l = c.loop-i in
-    ap found_of (sym (position_first _ 0 _ l.i l.invariant (omega arith) (eq-eqb _ _ c.if-ids-i.true)))
-
-pub loop-i-preserved : goal.loop-i-preserved
-loop-i-preserved c =
-    let l = c.loop-i in
-    every_take_next _ 0 _ l.i (omega arith) l.invariant (ne_eqb _ _ c.if-ids-i.false)
-
 pub returns : goal.returns
-returns c = ap found_of (sym (position_none _ _ c.loop-i.i c.loop-i.invariant c.loop-i-test.false))
+returns c =
+    let ids = c.args.ids.now in
+    let mapped : c.map.result ≡ option_map (λ i. record { 0 = i }) c.position.result = search rules in
+    let found = position_from_yields_List (λ i. eqb i c.args.id.0) _ _ c.position.result c.position.ensures.ran (YieldsList-from_slice ids (cc)) (λ x b q k. search (rules, tests)) in
+    mapped ∙ ap (option_map λ i. record { 0 = i }) found ∙ position_found _ ids

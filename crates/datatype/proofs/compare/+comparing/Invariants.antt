@@ -1,7 +1,7 @@
 -- Types, fields, children, rows of them and union children. The levels left fall from a type to its children, and each function calls on one
 -- that stands before it at equal levels.
 use Prim.Native.Nat.{ℕ, ◌+◌, ◌*◌, ◌≤◌}
-use Rattle.layout.specs.Kinds.{children_by}
+use Rattle.layout.specs.Kinds.{children_of}
 use Rattle.model.specs.WellFormed.{Child}
 use Rattle.datatype.specs.Children.{child_bytes}
 use Rattle.datatype.specs.Comparisons.{compare_child}
@@ -36,20 +36,11 @@ decreases-every_member l = 8 * l.levels + 4
 abbrev pub decreases-has_member : goal.decreases-has_member
 decreases-has_member l = 8 * l.levels + 3
 
-abbrev pub invariant-compare_row-loop-left : goal.invariant-compare_row-loop-left
-invariant-compare_row-loop-left v = (l : ℕ) → l ≤ v.levels → Rounds (Child l (children_by v.kind)) (child_bytes l (children_by v.kind)) (compare_child v.how l) v.s v.t v.a v.b v.count v.place v.other v.left
+abbrev pub invariant-compare_row-loop : goal.invariant-compare_row-loop
+invariant-compare_row-loop v = (l : ℕ) → l ≤ v.levels → Rounds (Child l (children_of v.kind)) (child_bytes l (children_of v.kind)) (compare_child v.how l) v.s v.t v.a v.b v.count v.place v.other v.counter
 
-abbrev pub decreases-compare_row-loop-left : goal.decreases-compare_row-loop-left
-decreases-compare_row-loop-left l = l.left
+abbrev pub invariant-every_member-loop : goal.invariant-every_member-loop
+invariant-every_member-loop l = EachOne l.how l.s l.fn.own.at l.fn.own.count l.t l.others.at l.others.count l.levels l.place l.counter
 
-abbrev pub invariant-every_member-loop-left : goal.invariant-every_member-loop-left
-invariant-every_member-loop-left l = EachOne l.how l.s l.a l.n l.t l.b l.m l.levels l.place l.left
-
-abbrev pub decreases-every_member-loop-left : goal.decreases-every_member-loop-left
-decreases-every_member-loop-left l = l.left
-
-abbrev pub invariant-has_member-loop-left : goal.invariant-has_member-loop-left
-invariant-has_member-loop-left l = One l.how l.s l.a l.t l.b l.count l.levels l.place l.left
-
-abbrev pub decreases-has_member-loop-left : goal.decreases-has_member-loop-left
-decreases-has_member-loop-left l = l.left
+abbrev pub invariant-has_member-loop : goal.invariant-has_member-loop
+invariant-has_member-loop l = One l.how l.s l.a l.t l.fn.others.at l.fn.others.count l.levels l.place l.counter

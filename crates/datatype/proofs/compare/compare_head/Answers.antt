@@ -10,7 +10,7 @@ returns-in-Equal c = heads_as Equal c.in-Equal.is c.same_head.ensures
 
 pub returns-in-EqualsDatatype : goal.returns-in-EqualsDatatype
 unfolding compare_head
-returns-in-EqualsDatatype c = heads_as EqualsDatatype c.in-EqualsDatatype.is (heads_alike c.byte.ensures.0 c.byte-in-EqualsDatatype.ensures.0)
+returns-in-EqualsDatatype c = heads_as EqualsDatatype c.in-EqualsDatatype.is (heads_alike c.byte.ensures.0 c.byte-in-EqualsDatatype.ensures.0 c.bit.ensures c.bit-in-EqualsDatatype.ensures)
 
 pub returns-in-Contains : goal.returns-in-Contains
 unfolding compare_head

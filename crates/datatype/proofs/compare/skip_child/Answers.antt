@@ -2,11 +2,11 @@
 use Rattle.datatype.proofs.Heads.{type_behind, field_behind, member_behind}
 use Rattle.datatype.proofs.compare.skip_child.Goals as goal
 
-pub returns-then-kind-eq3 : goal.returns-then-kind-eq3
-returns-then-kind-eq3 c = type_behind _ _ c.if-kind-eq3.true c.skip_type.ensures
+pub returns-in-KeyAndValue : goal.returns-in-KeyAndValue
+returns-in-KeyAndValue c = type_behind c.in-KeyAndValue.is c.skip_type.ensures
 
-pub returns-then-kind-lt5 : goal.returns-then-kind-lt5
-returns-then-kind-lt5 c = field_behind _ _ c.if-kind-eq3.false c.if-kind-lt5.true c.skip_field.ensures
+pub returns-in-Fields : goal.returns-in-Fields
+returns-in-Fields c = field_behind c.in-Fields.is c.skip_field.ensures
 
-pub returns : goal.returns
-returns c = member_behind _ _ c.if-kind-lt5.false c.ahead.ensures c.skip_field-2.ensures
+pub returns-in-CountedWithIds : goal.returns-in-CountedWithIds
+returns-in-CountedWithIds c = member_behind c.in-CountedWithIds.is c.ahead.ensures c.skip_field-in-CountedWithIds.ensures

@@ -1,9 +1,6 @@
--- `contains_metadata`: the pairs asked that are left decide.
+-- `contains_metadata`: the pairs asked behind those passed decide.
 use Rattle.datatype.proofs.Texts.{Asks}
 use Rattle.datatype.proofs.metadata.contains_metadata.Given as goal
 
-abbrev pub invariant-loop-left : goal.invariant-loop-left
-invariant-loop-left l = Asks l.s l.count l.at l.t l.initial.place l.initial.left l.place l.left
-
-abbrev pub decreases-loop-left : goal.decreases-loop-left
-decreases-loop-left l = l.left
+abbrev pub invariant-loop : goal.invariant-loop
+invariant-loop l = Asks l.s l.all.count l.all.at l.t l.fn.asked.at l.fn.asked.count l.place l.counter
