@@ -10,6 +10,7 @@ ghost use Rattle.members.specs.Claims.{SameMembers, SkipsMember, FindsChildren, 
 
 use buffer::Number;
 use table::{Kind, PlaceRow};
+use walk::Elements;
 
 // What the search for an equal child ends with: the first one has the id of the child that comes in, or another; or where the row ends.
 #[derive(Clone, Copy)]
@@ -75,21 +76,20 @@ fn skip_member(s: &[u8], at: usize, levels: usize) -> usize
     walk::skip_field(s, walk::ahead(s, at, 1), levels)
 }
 
-// So many children of the train, one behind the other, into a row of children: the loop of `UnionFields::try_merge`.
+// Children of the train, one behind the other, into a row of children: the loop of `UnionFields::try_merge`.
 pub fn merge_members(
     s: &[u8],
     w: &mut [u8],
     used: usize,
     at: usize,
-    q: usize,
-    count: usize,
+    new: Elements,
     levels: usize,
 ) -> Result<usize, Number>
-    ensures { (length w.new ≡ length w.old) × MergesMembers levels s.now w.old used at q count w.new result }
+    ensures { (length w.new ≡ length w.old) × MergesMembers levels s.now w.old used at new.at new.count w.new result }
 {
-    let mut place = q;
+    let mut place = new.at;
     let mut end = used;
-    for _ in 0..count {
+    for _ in 0..new.count {
         let merged = merge_member(s, w, end, at, place, levels);
         let Ok(next) = merged else {
             return merged;
@@ -121,22 +121,11 @@ pub fn ids_differ(s: &[u8], w: &[u8], row: usize) -> bool
     true
 }
 
-// The number of a union's children and the place of the first, where the union stands at a place of the train.
-#[derive(Clone, Copy)]
-struct Children {
-    count: usize,
-    at: usize,
-}
-
-// The children of a union stand behind its code, its mode and their count.
-fn find_children(s: &[u8], t: usize) -> Children
+// The children of a union that stands at a place of the train: behind its code, its mode and their count.
+fn find_children(s: &[u8], t: usize) -> Elements
     ensures { FindsChildren s.now t result.count result.at }
 {
-    let place = walk::ahead(s, t, 2);
-    Children {
-        count: walk::two(s, place),
-        at: walk::ahead(s, place, 2),
-    }
+    Elements::counted(s, walk::ahead(s, t, 2))
 }
 
 // Puts in the places of children of the train, which stand one behind the other.
@@ -145,7 +134,7 @@ fn insert_members(
     w: &mut [u8],
     used: usize,
     at: usize,
-    children: Children,
+    children: Elements,
     levels: usize,
 ) -> usize
     ensures { (length w.new ≡ length w.old) × InsertsMembers levels s.now w.old used at children.at children.count w.new result }
@@ -197,7 +186,7 @@ pub fn merge_union(
     let end = open_union(s, w, used, at, levels);
     let row = walk::ahead(w, at, 4);
     let children = find_children(s, t);
-    let merged = merge_members(s, w, end, row, children.at, children.count, levels);
+    let merged = merge_members(s, w, end, row, children, levels);
     let Ok(next) = merged else {
         return merged;
     };
