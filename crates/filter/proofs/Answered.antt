@@ -45,11 +45,6 @@ pub filter_refused : (s mask : Bytes) {read : Result ℕ Refusal} {x : Refusal} 
 unfolding filter_answer
 filter_refused s mask e h = sheet_refused s (answered mask) e h
 
--- the test for 32 passed
-not_short : (t : Bool) → ◌≡◌ {A = Result Unit Refusal} (unless_short t) (Ok tt) → t ≡ false
-not_short true h = cc
-not_short false h = refl
-
 module _ {s : Bytes} (mask : Bytes) (a : Whole s (answered mask)) {room : Result Unit Refusal} {w w' : Bytes} {r : Reach}
     (tested : room ≡ unless_short (ltb (length w) (work_bytes_per_sheet_byte * length s))) (h : room ≡ Ok tt) (g : FiltersSheet s mask w w' r) where
   outcome : filter_answer s mask ≡ answered mask a.schema
@@ -57,7 +52,7 @@ module _ {s : Bytes} (mask : Bytes) (a : Whole s (answered mask)) {room : Result
   outcome = a.outcome
 
   kept : (r.leaf ≡ leaf_count a.schema) × Begins w' r.written (sheet_bytes (filtered a.schema mask))
-  kept = g.does a.schema a.fits.well_formed a.bytes (omega (arith, a.fits.size, ap length a.bytes)) (omega (arith, room_enough (length w) (length s) refl (not_short _ (sym tested ∙ h))))
+  kept = g.does a.schema a.fits.well_formed a.bytes (omega (arith, a.fits.size, ap length a.bytes)) (omega (arith, room_enough (length w) (length s) tested h))
 
   pub end_inside : r.written ≤ length w'
   end_inside = omega (arith, kept.1.end, ap length kept.1.bytes, length-append (sheet_bytes (filtered a.schema mask)) kept.1.rest)

@@ -10,7 +10,7 @@ use lib.Dec.{eqb, leb}
 use lib.Seq.{take_all, take-suc, take_at, get_or_at, get_or-take}
 use borrow.Author.Tests.{eqb-true, eqb-false, leb-true, leb-false}
 use Rattle.model.specs.Numbers.{max_sheet_bytes}
-use Rattle.model.specs.Bytes.{Bytes, u16, flag}
+use Rattle.model.specs.Bytes.{Bytes, u16, bit, flag}
 use Rattle.model.specs.Tree.{Head, blank}
 use Rattle.model.specs.Sheet.{front_bytes, text_bytes, head_bytes}
 use Rattle.model.specs.Schema.{plain_head, join}
@@ -18,7 +18,7 @@ use Rattle.model.proofs.Normalized.{join_append}
 use Rattle.buffer.specs.Puts.{Puts}
 use Rattle.buffer.proofs.Puts.{puts_none, puts_same, puts_join, puts_two}
 use Rattle.walk.specs.Stands.{Stands, Skips}
-use Rattle.walk.proofs.Parts.{Ahead}
+use Rattle.walk.proofs.Parts.{Ahead, bit_true, bit_false}
 use Rattle.walk.proofs.Descents.{name_stands, no_name, body_stands}
 use Rattle.normalize.specs.Expands.{Above, prefix, Measures}
 
@@ -28,17 +28,17 @@ use Rattle.normalize.specs.Expands.{Above, prefix, Measures}
 abbrev PutsOwn : (s : Bytes) (place : ℕ) (w : Bytes) (p : ℕ) (w' : Bytes) (q : ℕ) → Type 0
 PutsOwn s place w p w' q = (h : Head) → Stands s place (head_bytes h) → Puts h.name w p w' q
 
-module _ {s : Bytes} {place map : ℕ} (e : map ≡ get_or s place 0) {w : Bytes} {p : ℕ} where
-  pub own_named : {text body end : ℕ} {w' : Bytes} {q : ℕ} → map / 4 % 2 ≡ 1 → Ahead s place 1 text → Ahead s text 2 body → ((t : Bytes) → Skips s text (text_bytes t) end)
+module _ {s : Bytes} {place map : ℕ} {set : Bool} (e : map ≡ get_or s place 0) (k : set ≡ bit 2 map) {w : Bytes} {p : ℕ} where
+  pub own_named : {text body end : ℕ} {w' : Bytes} {q : ℕ} → set ≡ true → Ahead s place 1 text → Ahead s text 2 body → ((t : Bytes) → Skips s text (text_bytes t) end)
       → ((b : Bytes) → Stands s body b → end ≡ body + length b → Puts b w p w' q) → PutsOwn s place w p w' q
   unfolding text_bytes u16
-  own_named b i j k f h st =
-      let t = name_stands e b i h st in
+  own_named b i j l f h st =
+      let t = name_stands e (bit_true 2 map (sym k ∙ b)) i h st in
       let u = body_stands h.name j t in
-      f h.name u.1 (omega (arith, (k h.name).behind t, u.0))
+      f h.name u.1 (omega (arith, (l h.name).behind t, u.0))
 
-  pub own_unnamed : (map / 4 % 2 ≡ 1 → ⊥) → PutsOwn s place w p w p
-  own_unnamed b h st = puts_same (sym (no_name e b h st)) puts_none
+  pub own_unnamed : set ≡ false → PutsOwn s place w p w p
+  own_unnamed b h st = puts_same (sym (no_name e (bit_false 2 map (sym k ∙ b)) h st)) puts_none
 
 -- The names above
 

@@ -15,16 +15,11 @@ ghost use Rattle.buffer.specs.Leaves.{leaves};
 ghost use Rattle.walk.specs.Stands.{Stands};
 ghost use Rattle.normalize.specs.Expands.{Above, prefix, Measures, ExpandsColumn, ExpandsField, ExpandsFields, PutsColumns, sheet_length, PutsNormalized};
 
-use buffer::Outcome;
-use sheet::{Cursor, Step};
+use buffer::{Number, Refusal};
+use layout::STRUCT;
+use sheet::Cursor;
 use std::marker::Model;
-use text::Text;
-
-// The code of the type that is expanded, in the order of `DataType`.
-const STRUCT: usize = 32;
-
-// "separator not UTF-8"
-const SEPARATOR_NOT_UTF8: u8 = 18;
+use walk::Elements;
 
 // How far a walk came: the place in the sheet, the position in the answer, and the number of columns before it.
 #[derive(Clone, Copy)]
@@ -106,7 +101,7 @@ impl Expansion<'_> {
     fn put_own_name(&self, w: &mut [u8], pos: usize, at: usize) -> usize
         ensures { (h : Head) → Stands self.now.sheet.now at (head_bytes h) → Puts h.name w.old pos w.new result }
     {
-        if walk::byte(self.sheet, at) / 4 % 2 == 1 {
+        if walk::bit(walk::byte(self.sheet, at), 2) {
             let text = walk::ahead(self.sheet, at, 1);
             let body = walk::ahead(self.sheet, text, 2);
             let end = walk::skip_text(self.sheet, text);
@@ -189,13 +184,12 @@ impl Expansion<'_> {
         let Some(longer) = path.below(from.place) else {
             return from;
         };
-        let counted = walk::ahead(self.sheet, data_type, 1);
-        let count = walk::two(self.sheet, counted);
+        let fields = Elements::counted(self.sheet, walk::ahead(self.sheet, data_type, 1));
         let first = Reach {
-            place: walk::ahead(self.sheet, counted, 2),
+            place: fields.at,
             ..from
         };
-        self.expand_fields(w, first, count, &longer)
+        self.expand_fields(w, first, fields.count, &longer)
     }
 
     // So many fields, one behind the other. It stops once they are known to pass the longest answer.
@@ -240,22 +234,22 @@ impl Expansion<'_> {
     }
 
     // The parameters and the answer of a call whose sheet was read: 18, 30, 31, or acceptance.
-    fn answer(&self, work: &mut [u8], answer: &mut [u8]) -> Outcome
+    fn answer(&self, work: &mut [u8], answer: &mut [u8]) -> Result<usize, Refusal>
         ensures { (x : Schema) → Fits x → self.now.sheet.now ≡ sheet_bytes x → leaves result answer.new work.new ≡ settled (sheet_answer (schemas.normalize x self.now.separator.now self.now.max_level)) (zeros (length work.old)) answer.old }
     {
-        let checked = text::check(self.separator);
-        let Text::Valid = checked else {
-            return buffer::refuse(work, SEPARATOR_NOT_UTF8, 0);
-        };
+        if text::check(self.separator).is_err() {
+            return buffer::refuse(work, Refusal::from(Number::SeparatorNotUtf8));
+        }
         let columns = self.put_columns(&mut [], 3);
         let length = sheet_length(columns.written);
-        let number = buffer::length_number(length, answer.len());
-        if number != Outcome::ACCEPTED {
-            return buffer::refuse(work, number, 0);
+        match buffer::length_fits(length, answer.len()) {
+            Err(refusal) => buffer::refuse(work, refusal),
+            Ok(()) => {
+                self.put_normalized(answer, columns.count);
+                buffer::clear(work);
+                Ok(length)
+            }
         }
-        self.put_normalized(answer, columns.count);
-        buffer::clear(work);
-        Outcome::accepted(length)
     }
 }
 
@@ -266,15 +260,13 @@ pub fn normalize(
     max_level: u16,
     work: &mut [u8],
     answer: &mut [u8],
-) -> Outcome
+) -> Result<usize, Refusal>
     ensures { leaves result answer.new work.new ≡ normalize_call sheet.now separator.now max_level work.old answer.old }
 {
-    if buffer::lacks_room(work.len(), sheet.len()) {
-        return Outcome::refused(Outcome::WORK_BUFFER_SHORT, 0);
-    }
+    buffer::work_fits(work.len(), sheet.len())?;
     match sheet::read_sheet(sheet) {
-        Step::Refused(number, place) => buffer::refuse(work, number, place),
-        Step::Next(_) => {
+        Err(refusal) => buffer::refuse(work, refusal),
+        Ok(_) => {
             let expansion = Expansion {
                 sheet,
                 separator,

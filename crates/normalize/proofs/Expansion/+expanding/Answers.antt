@@ -18,7 +18,7 @@ expand_field-returns-in_default t c = no_level _ _ _ c.in_default.ensures
 pub expand_field-returns : goal.expand_field-returns
 expand_field-returns t c =
     field_expanded _ _ _ _ c.skip_head-data_type.ensures c.byte.ensures.0 (ap length c.places.ensures) c.expands.ensures c.if-not-expands.false
-    c.in-Some.ensures.1 c.ahead-counted.ensures c.ahead.ensures c.two-count.ensures.0 c.expand_fields.ensures
+    c.in-Some.ensures.1 c.ahead.ensures c.counted-fields.ensures.at c.counted-fields.ensures.count c.expand_fields.ensures
 
 pub expand_fields-loop-init : goal.expand_fields-loop-init
 expand_fields-loop-init t c = (refl, λ l up hs h e a. rw sub-zero (turns_begin _ _ _ _))

@@ -1,19 +1,19 @@
 -- `answer`: 18, 30 or 31, or the sheet.
-use Rattle.normalize.proofs.Sheets.{separator_refused, length_refused, length_accepted}
+use mathlib.Core.Path.{refl, sym, ap, ◌∙◌}
+use Rattle.std.specs.Prelude.{Err}
+use Rattle.normalize.proofs.Sheets.{check_failed, check_passed, separator_refused, length_refused, length_accepted}
 use Rattle.normalize.proofs.Expansion.answer.Goals as goal
 
-pub returns-in_default : goal.returns-in_default
-returns-in_default c =
-    separator_refused _ _ _ _ _ c.check-checked.ensures c.refuse.ensures.1 c.in_default.is c.refuse.ensures.0
+pub returns-then-is_err : goal.returns-then-is_err
+returns-then-is_err c =
+    separator_refused _ _ _ _ _ c.refuse.ensures.1 (check_failed _ c.check.ensures (sym c.is_err.ensures.value ∙ c.if-is_err.true)) (c.refuse.ensures.0 ∙ ap Err c.from.ensures)
 
-pub returns-then-number-ne-ACCEPTED : goal.returns-then-number-ne-ACCEPTED
-returns-then-number-ne-ACCEPTED c =
-    length_refused _ _ _ _ _ c.check-checked.ensures c.refuse-then-number-ne-ACCEPTED.ensures.1 c.in-Valid.is
-    c.put_columns-columns.result c.put_columns-columns.ensures c.sheet_length-length.ensures c.length_number-number.ensures
-    c.if-number-ne-ACCEPTED.true c.refuse-then-number-ne-ACCEPTED.ensures.0
+pub returns-in-Err : goal.returns-in-Err
+returns-in-Err c =
+    length_refused _ _ _ _ _ c.refuse-in-Err.ensures.1 (check_passed _ c.check.ensures (sym c.is_err.ensures.value ∙ c.if-is_err.false))
+    c.put_columns-columns.result c.put_columns-columns.ensures c.sheet_length-length.ensures c.length_fits.ensures c.in-Err.is c.refuse-in-Err.ensures.0
 
-pub returns : goal.returns
-returns c =
-    length_accepted _ _ _ _ _ c.check-checked.ensures c.clear.ensures c.in-Valid.is
-    c.put_columns-columns.result c.put_columns-columns.ensures c.sheet_length-length.ensures c.length_number-number.ensures
-    c.if-number-ne-ACCEPTED.false c.put_normalized.ensures c.accepted.ensures
+pub returns-in-Ok : goal.returns-in-Ok
+returns-in-Ok c =
+    length_accepted _ _ _ _ _ c.clear.ensures (check_passed _ c.check.ensures (sym c.is_err.ensures.value ∙ c.if-is_err.false))
+    c.put_columns-columns.result c.put_columns-columns.ensures c.sheet_length-length.ensures c.length_fits.ensures c.in-Ok.is c.put_normalized.ensures refl

@@ -2,8 +2,8 @@
 use Rattle.normalize.proofs.Names.{own_named, own_unnamed}
 use Rattle.normalize.proofs.Expansion.put_own_name.Goals as goal
 
-pub returns-then-byte-eq1 : goal.returns-then-byte-eq1
-returns-then-byte-eq1 c = own_named c.byte.ensures.0 c.if-byte-eq1.true c.ahead-text.ensures c.ahead-body.ensures c.skip_text-end.ensures c.put_part.ensures
+pub returns-then-bit : goal.returns-then-bit
+returns-then-bit c = own_named c.byte.ensures.0 c.bit.ensures c.if-bit.true c.ahead-text.ensures c.ahead-body.ensures c.skip_text-end.ensures c.put_part.ensures
 
 pub returns : goal.returns
-returns c = own_unnamed c.byte.ensures.0 c.if-byte-eq1.false
+returns c = own_unnamed c.byte.ensures.0 c.bit.ensures c.if-bit.false
