@@ -14,11 +14,9 @@ ghost use Rattle.table.specs.Table.{SpellSchema};
 ghost use Rattle.emit.specs.Survivor.{IsFrontType, IsSurvivor};
 ghost use Rattle.emit.specs.Emission.{HasPlaces, PutsPlaces, PutsMetadata, PutsUnion, PutsRawHead, PutsDictId, PutsName, PutsHead, PutsSurvivor, PutsType, PutsEntry, HasEntries, CountsEntries, PutsEntries, PutsRow, PutsColumns};
 
+use layout::NULL;
 use sheet::Cursor;
 use table::{Kind, PlaceRow};
-
-// The code of the type that gives way.
-const NULL: usize = 0;
 
 // Copies the byte at a place of the train.
 fn put_copy(s: &[u8], at: usize, dst: &mut [u8], pos: usize) -> usize
@@ -90,7 +88,7 @@ fn put_name(
 {
     let map = walk::byte(s, first);
     let name = walk::ahead(s, first, 1);
-    let end = walk::skip_text_if(s, name, map / 4 % 2 == 1);
+    let end = walk::skip_if(s, name, walk::bit(map, 2), walk::skip_text);
     let own = flags % 4 + map / 4 % 2 * 4 + usize::from(metadata) * 8 + map / 16 % 2 * 16;
     let next = buffer::put_one(dst, pos, own as u8);
     walk::put_part(dst, next, s, name, end)
@@ -241,7 +239,7 @@ impl Spelling<'_> {
     fn put_type(&self, at: usize, own: usize, levels: usize, dst: &mut [u8], pos: usize) -> usize
         ensures { PutsType self.now.train.now self.now.table.now at own levels dst.old pos dst.new result }
     {
-        if levels <= 0 {
+        if levels == 0 {
             return pos;
         }
         let x = table::three(self.table, walk::ahead(self.table, at, 1));

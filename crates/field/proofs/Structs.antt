@@ -20,7 +20,7 @@ use Rattle.buffer.specs.declared.refusal.Number.{Number}
 use Rattle.walk.specs.Stands.{Stands}
 use Rattle.walk.proofs.Standing.{byte_stands, stands_behind, skip_ahead}
 use Rattle.walk.proofs.Parts.{Ahead, two_at}
-use Rattle.walk.proofs.Descents.{code_stands, count_stands}
+use Rattle.walk.proofs.Descents.{code_stands, count_stands, elements_stand}
 use Rattle.table.specs.Held.{Held}
 use Rattle.table.specs.Table.{raw, open_struct, no_entry, u24, three, none, SpellRow, SpellType, spell_raw, spell_struct, spell_list, spell_union}
 use Rattle.table.specs.Says.{Merged, Says}
@@ -50,7 +50,7 @@ struct_children l o a e (c, p, k) =
           (subst (λ n. WellFormedChildren (WellFormedType l) (layout n).children a.children) e k);
     }
 
-module _ (l : ℕ) {s : Bytes} {t m n q : ℕ} (a : DataType (suc l)) (c : Children l a) (b : Ahead s t 1 m) (d : n ≡ two_at s m) (f : Ahead s t 3 q) (st : Stands s t (type_bytes (suc l) a)) where
+module _ (l : ℕ) {s : Bytes} {t m n q : ℕ} (a : DataType (suc l)) (c : Children l a) (b : Ahead s t 1 m) (d : n ≡ two_at s m) (f : Ahead s m 2 q) (st : Stands s t (type_bytes (suc l) a)) where
   behind_code : Stands s m (with_count (field_bytes (type_bytes l)) a.children)
   behind_code = stands_behind (skip_ahead (a.code ∷ []) refl b.1) (subst (Stands s t) c.bytes st)
 
@@ -58,7 +58,7 @@ module _ (l : ℕ) {s : Bytes} {t m n q : ℕ} (a : DataType (suc l)) (c : Child
   unfolding with_count u16
   incoming small = record {
     small = small;
-    stands = stands_behind (skip_ahead (a.code ∷ u16 (length a.children)) refl f.1) (subst (Stands s t) c.bytes st);
+    stands = elements_stand (field_bytes (type_bytes l)) a.children f behind_code;
     counted = sym (d ∙ count_stands (field_bytes (type_bytes l)) a.children behind_code);
     well_formed = c.well_formed;
   }
@@ -118,7 +118,7 @@ module _ (parked : Bool) where
 
   module _ {s w : Bytes} {used place : ℕ} where
     pub struct_poured : {w₁ w₂ : Bytes} {m own inner c count opened start levels : ℕ} {r : Merged} → (get_or w place 0 ≡ open_struct → ⊥) → Ahead w place 1 m → own ≡ three w m → Ahead w place 4 inner → Ahead s own 1 c
-        → count ≡ two_at s c → length w₁ ≡ length w → OpensRow w used place w₁ opened → Ahead s own 3 start → Pours parked levels s w₁ opened inner start count w₂ r → OpensStruct parked levels s w used place w₂ r
+        → count ≡ two_at s c → length w₁ ≡ length w → OpensRow w used place w₁ opened → Ahead s c 2 start → Pours parked levels s w₁ opened inner start count w₂ r → OpensStruct parked levels s w used place w₂ r
     struct_poured {w₁} {w₂} {m} {own} {inner} {c} {count} {opened} {start} {levels} {r} never a o f b d same opens g pours = record {
       says = λ l first low small x y z k t held hx p room. go l first low small x y z k t held hx p room;
     }
@@ -164,7 +164,7 @@ module _ (parked : Bool) where
           (ap (λ m. m >>= λ ks. done (with_children d ks)) (pour_append (by_name parked l) [] d.children u.children ∙ ap (λ m. m >>= λ b. pour (by_name parked l) b u.children) m));
     }
 
-    pub struct_merged : {mid c count start : ℕ} {w₂ : Bytes} {r : Merged} → got ≡ Ok mid → Ahead s t 1 c → count ≡ two_at s c → Ahead s t 3 start → Pours parked levels s w₁ mid inner start count w₂ r
+    pub struct_merged : {mid c count start : ℕ} {w₂ : Bytes} {r : Merged} → got ≡ Ok mid → Ahead s t 1 c → count ≡ two_at s c → Ahead s c 2 start → Pours parked levels s w₁ mid inner start count w₂ r
         → MergesStruct parked levels s w used place t w₂ r
     unfolding ◌>>=◌
     struct_merged {mid} {c} {count} {start} {w₂} {r} g b d f pours = record {

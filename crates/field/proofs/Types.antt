@@ -3,11 +3,11 @@ use Prim.Native.Nat.{ℕ, zero, suc, ◌+◌, ◌*◌, ◌-◌, ◌≤◌}
 use native.Mathlib.Omega.{arith}
 use mathlib.Core.Path.{◌≡◌, refl, sym, ap, subst, ◌∙◌}
 use mathlib.Core.List.{[], ◌∷◌, ◌++◌}
-use mathlib.Core.Bool.{Bool, true, false, not, ◌||◌, ◌&&◌, false≢true}
+use mathlib.Core.Bool.{Bool, true, false, not, ◌||◌, ◌&&◌}
 use mathlib.Core.Logic.{◌⊎◌, inl, inr}
 use lib.ListN.{length, get_or}
 use lib.Dec.{eqb}
-use borrow.Author.Tests.{eq-eqb, ne_eqb, eqb-true, eqb-false}
+use borrow.Author.Tests.{eq-eqb, ne_eqb, eqb-false}
 use Rattle.model.specs.Numbers.{type_clash}
 use Rattle.model.specs.Bytes.{Bytes, same, same_bytes}
 use Rattle.model.specs.Tree.{DataType, with_children, Null, List', LargeList, Struct, Union}
@@ -45,16 +45,8 @@ null_raw l (spell_list x m ys f b q g (inl d) p r v u) e = absurd (omega (arith,
 null_raw l (spell_list x m ys f b q g (inr d) p r v u) e = absurd (omega (arith, d, e))
 null_raw l (spell_union x m ys b q g d p r v u) e = absurd (omega (arith, d, e))
 
-is_list : (c : ℕ) → (eqb c List' || eqb c LargeList) ≡ true → (c ≡ List') ⊎ (c ≡ LargeList)
-is_list c h = go (eqb c List') refl h
-  where
-    go : (b : Bool) → eqb c List' ≡ b → (b || eqb c LargeList) ≡ true → (c ≡ List') ⊎ (c ≡ LargeList)
-    go true e h = inl (eqb-true c List' e)
-    go false e h = inr (eqb-true c LargeList h)
-
-no_list : (c : ℕ) → (eqb c List' || eqb c LargeList) ≡ false → (c ≡ List') ⊎ (c ≡ LargeList) → ⊥
-no_list c h (inl e) = false≢true (sym h ∙ ap (λ n. eqb n List' || eqb n LargeList) e)
-no_list c h (inr e) = false≢true (sym h ∙ ap (λ n. eqb n List' || eqb n LargeList) e)
+neither : (c : ℕ) → ((c ≡ List') ⊎ (c ≡ LargeList) → ⊥) → (eqb c List' || eqb c LargeList) ≡ false
+neither c n = rw (ne_eqb c List' (λ e. n (inl e)), ne_eqb c LargeList (λ e. n (inr e)))
 
 -- in either mode
 module _ (parked : Bool) where
@@ -188,21 +180,19 @@ module _ (parked : Bool) where
             (m.says l first u (omega (arith, low)) (e ∙ c) i x y z k a held hx (p.0, p.1 ∙ c) room);
       }
 
-      pub same_list : {b : Bool} → b ≡ (eqb code List' || eqb code LargeList) → b ≡ true → MergesList parked (levels - 1) s w used place t w₁ r → MergesSameCode parked code levels s w used place t w₁ r
-      same_list b d m = record {
+      pub same_list : (code ≡ List') ⊎ (code ≡ LargeList) → MergesList parked (levels - 1) s w used place t w₁ r → MergesSameCode parked code levels s w used place t w₁ r
+      same_list h m = record {
         says = λ l first u low e i x y z k a held hx p room.
-            let h = is_list code (sym b ∙ d) in
             subst (λ v. Says (SpellType (suc l) s first) (k + 4 * length (type_bytes (suc l) u)) x z w₁ r v) (sym (list_arm l a u (subst (λ n. (n ≡ List') ⊎ (n ≡ LargeList)) (sym p.1) h)))
             (m.says l first u code (omega (arith, low)) h e i x y z k a held hx p room);
       }
 
-      pub same_other : {b : Bool} → b ≡ (eqb code List' || eqb code LargeList) → b ≡ false → (code ≡ Struct → ⊥) → (code ≡ Union → ⊥) → MergesEqual levels s w used place t w₁ r
-          → MergesSameCode parked code levels s w used place t w₁ r
-      same_other b d n₁ n₂ m = record {
+      pub same_other : (code ≡ Struct → ⊥) → (code ≡ Union → ⊥) → ((code ≡ List') ⊎ (code ≡ LargeList) → ⊥) → MergesEqual levels s w used place t w₁ r → MergesSameCode parked code levels s w used place t w₁ r
+      same_other n₁ n₂ n₃ m = record {
         says = λ l first u low e i x y z k a held hx p room.
             subst (λ v. Says (SpellType (suc l) s first) (k + 4 * length (type_bytes (suc l) u)) x z w₁ r v)
-            (sym (other_arm l a u (λ h. n₁ (sym p.1 ∙ h)) (λ h. n₂ (sym p.1 ∙ h)) (ap (λ c. eqb c List' || eqb c LargeList) p.1 ∙ sym b ∙ d)))
-            (m.says l first u code low n₁ n₂ (no_list code (sym b ∙ d)) e i x y z k a held hx p room);
+            (sym (other_arm l a u (λ h. n₁ (sym p.1 ∙ h)) (λ h. n₂ (sym p.1 ∙ h)) (ap (λ c. eqb c List' || eqb c LargeList) p.1 ∙ neither code n₃)))
+            (m.says l first u code low n₁ n₂ n₃ e i x y z k a held hx p room);
       }
 
     pub same_union : (w₁ : Bytes) (r : Merged) → code ≡ Union → MergesUnion (levels - 1) s w used place t w₁ r → MergesSameCode parked code levels s w used place t w₁ r

@@ -3,22 +3,13 @@
 // for four bytes for each byte that comes in, they do what the definitions of specs/Claims.antt say.
 #![tactic(auto)]
 
-ghost use Rattle.std.specs.Prelude.{◌≡◌, ◌||◌, length, eqb};
-ghost use Rattle.model.specs.Tree.{List', LargeList};
+ghost use Rattle.std.specs.Prelude.{◌≡◌, length};
 ghost use Rattle.field.specs.Claims.{HasNull, OrdersAgree, OpensStruct, MergesField, MergesRest, MergesType, MergesSameCode, MergesEqual, MergesStruct, MergesList, SetsFlags, Pours, PutsField};
 
 use buffer::Number;
+use layout::{LARGE_LIST, LIST, NULL, STRUCT, UNION};
 use table::Kind;
-
-const NULL: usize = 0;
-
-const STRUCT: usize = 32;
-
-const UNION: usize = 33;
-
-const LIST: usize = 27;
-
-const LARGE_LIST: usize = 30;
+use walk::Elements;
 
 // How many bytes are in use when one field was put into a row, and where to look first for the next one.
 #[derive(Clone, Copy)]
@@ -38,15 +29,15 @@ fn set_flags(s: &[u8], w: &mut [u8], used: usize, at: usize, b: usize, q: usize,
     table::set_byte(w, used, at, n);
 }
 
-// "List and LargeList merge their child".
-fn is_list(code: usize) -> bool
-    ensures { result ≡ (eqb code List' || eqb code LargeList) }
-{
-    code == LIST || code == LARGE_LIST
-}
-
 // "All other types must be equal." Of a plain type the code says everything, and both have one code.
-fn same_or_clash(s: &[u8], w: &mut [u8], used: usize, at: usize, t: usize, levels: usize) -> Result<usize, Number>
+fn same_or_clash(
+    s: &[u8],
+    w: &mut [u8],
+    used: usize,
+    at: usize,
+    t: usize,
+    levels: usize,
+) -> Result<usize, Number>
     ensures { (length w.new ≡ length w.old) × MergesEqual levels s.now w.old used at t w.new result }
 {
     if layout::is_plain(walk::byte(s, t)) {
@@ -71,7 +62,8 @@ fn has_null(s: &[u8], w: &[u8], at: usize, q: usize) -> bool
 fn orders_agree(s: &[u8], w: &[u8], at: usize, q: usize, parked: bool) -> bool
     ensures { OrdersAgree parked s.now w.now at q result }
 {
-    walk::byte(w, at) / 2 % 2 == walk::byte(s, q) / 2 % 2 || parked && has_null(s, w, at, q)
+    walk::bit(walk::byte(w, at), 1) == walk::bit(walk::byte(s, q), 1)
+        || parked && has_null(s, w, at, q)
 }
 
 // A field into the entry at a place: `Field::try_merge`. "Checks in order: ordered flags, metadata, type."
@@ -161,16 +153,12 @@ fn merge_same_code(
     if levels <= 0 {
         return Ok(used);
     }
-    if code == STRUCT {
-        return merge_struct(s, w, used, at, t, levels - 1, parked);
+    match code {
+        STRUCT => merge_struct(s, w, used, at, t, levels - 1, parked),
+        UNION => members::merge_union(s, w, used, at, t, levels - 1),
+        LIST | LARGE_LIST => merge_list(s, w, used, at, t, levels - 1, parked),
+        _ => same_or_clash(s, w, used, at, t, levels),
     }
-    if code == UNION {
-        return members::merge_union(s, w, used, at, t, levels - 1);
-    }
-    if is_list(code) {
-        return merge_list(s, w, used, at, t, levels - 1, parked);
-    }
-    same_or_clash(s, w, used, at, t, levels)
 }
 
 // Two structs: "Struct pours its own children, then the other's, through the merge by name, so equal names inside it fold."
@@ -191,22 +179,20 @@ fn merge_struct(
     let Ok(own) = got else {
         return got;
     };
-    let count = walk::two(s, walk::ahead(s, t, 1));
-    pour(
-        s,
-        w,
-        own,
-        inner,
-        walk::ahead(s, t, 3),
-        count,
-        levels,
-        parked,
-    )
+    let children = Elements::counted(s, walk::ahead(s, t, 1));
+    pour(s, w, own, inner, children, levels, parked)
 }
 
 // A raw struct is opened and its own children poured; an open one has them already.
 #[cycle(merging)]
-fn pour_own(s: &[u8], w: &mut [u8], used: usize, at: usize, levels: usize, parked: bool) -> Result<usize, Number>
+fn pour_own(
+    s: &[u8],
+    w: &mut [u8],
+    used: usize,
+    at: usize,
+    levels: usize,
+    parked: bool,
+) -> Result<usize, Number>
     ensures { (length w.new ≡ length w.old) × OpensStruct parked levels s.now w.old used at w.new result }
 {
     if table::kind_at(w, at) == Kind::OpenStruct {
@@ -214,18 +200,9 @@ fn pour_own(s: &[u8], w: &mut [u8], used: usize, at: usize, levels: usize, parke
     }
     let own = table::three(w, walk::ahead(w, at, 1));
     let inner = walk::ahead(w, at, 4);
-    let count = walk::two(s, walk::ahead(s, own, 1));
+    let children = Elements::counted(s, walk::ahead(s, own, 1));
     let opened = table::open_struct(w, used, at);
-    pour(
-        s,
-        w,
-        opened,
-        inner,
-        walk::ahead(s, own, 3),
-        count,
-        levels,
-        parked,
-    )
+    pour(s, w, opened, inner, children, levels, parked)
 }
 
 // Two lists, or two large lists: the child with the other's; it keeps its own name.
@@ -246,24 +223,23 @@ fn merge_list(
     merge_field(s, w, opened, inner, walk::ahead(s, t, 1), levels, parked)
 }
 
-// So many fields of the train into a row, by name: `SchemaBuilder::try_merge` for each. A loop: a thousand take no more stack than one.
+// Fields of the train into a row, by name: `SchemaBuilder::try_merge` for each. A loop: a thousand take no more stack than one.
 #[cycle(merging)]
 pub fn pour(
     s: &[u8],
     w: &mut [u8],
     used: usize,
     row: usize,
-    q: usize,
-    count: usize,
+    fields: Elements,
     levels: usize,
     parked: bool,
 ) -> Result<usize, Number>
-    ensures { (length w.new ≡ length w.old) × Pours parked levels s.now w.old used row q count w.new result }
+    ensures { (length w.new ≡ length w.old) × Pours parked levels s.now w.old used row fields.at fields.count w.new result }
 {
     let mut held = used;
     let mut hint = row;
-    let mut place = q;
-    for _ in 0..count {
+    let mut place = fields.at;
+    for _ in 0..fields.count {
         let placed = put(s, w, held, row, hint, place, levels, parked)?;
         held = placed.used;
         hint = placed.next;

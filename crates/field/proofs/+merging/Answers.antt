@@ -30,23 +30,23 @@ merge_rest-returns t c = let f = c.set_flags.ensures in let t = c.merge_type.ens
 pub merge_same_code-returns-then-levels-le0 : goal.merge_same_code-returns-then-levels-le0
 merge_same_code-returns-then-levels-le0 t c = (refl, no_level _ c.if-levels-le0.true)
 
-pub merge_same_code-returns-then-code-eq-STRUCT : goal.merge_same_code-returns-then-code-eq-STRUCT
-merge_same_code-returns-then-code-eq-STRUCT t c = let m = c.merge_struct.ensures in (m.0, same_struct _ c.if-code-eq-STRUCT.true m.1)
+pub merge_same_code-returns-in-32 : goal.merge_same_code-returns-in-32
+merge_same_code-returns-in-32 t c = let m = c.merge_struct.ensures in (m.0, same_struct _ c.in-32.is m.1)
 
-pub merge_same_code-returns-then-code-eq-UNION : goal.merge_same_code-returns-then-code-eq-UNION
-merge_same_code-returns-then-code-eq-UNION t c = let m = c.merge_union.ensures in (m.0, same_union _ _ _ c.if-code-eq-UNION.true m.1)
+pub merge_same_code-returns-in-33 : goal.merge_same_code-returns-in-33
+merge_same_code-returns-in-33 t c = let m = c.merge_union.ensures in (m.0, same_union _ _ _ c.in-33.is m.1)
 
-pub merge_same_code-returns-then-is_list : goal.merge_same_code-returns-then-is_list
-merge_same_code-returns-then-is_list t c = let m = c.merge_list.ensures in (m.0, same_list _ c.is_list.ensures c.if-is_list.true m.1)
+pub merge_same_code-returns-in-27 : goal.merge_same_code-returns-in-27
+merge_same_code-returns-in-27 t c = let m = c.merge_list.ensures in (m.0, same_list _ c.in-27.is m.1)
 
-pub merge_same_code-returns : goal.merge_same_code-returns
-merge_same_code-returns t c = let m = c.same_or_clash.ensures in (m.0, same_other _ c.is_list.ensures c.if-is_list.false c.if-code-eq-STRUCT.false c.if-code-eq-UNION.false m.1)
+pub merge_same_code-returns-in_default : goal.merge_same_code-returns-in_default
+merge_same_code-returns-in_default t c = let m = c.same_or_clash.ensures in (m.0, same_other _ (λ e. omega (arith, e)) (λ e. omega (arith, e)) (λ h. grind (arith, h)) m.1)
 
 pub merge_struct-returns-in_default : goal.merge_struct-returns-in_default
 merge_struct-returns-in_default t c = let o = c.pour_own-got.ensures in (o.0, struct_stopped _ c.ahead-inner.ensures o.0 o.1 c.in_default.is)
 
 pub merge_struct-returns : goal.merge_struct-returns
-merge_struct-returns t c = let o = c.pour_own-got.ensures in let p = c.pour.ensures in (p.0 ∙ o.0, struct_merged _ c.ahead-inner.ensures o.0 o.1 c.in-Ok.is c.ahead.ensures c.two-count.ensures.0 c.ahead-2.ensures p.1)
+merge_struct-returns t c = let o = c.pour_own-got.ensures in let p = c.pour.ensures in (p.0 ∙ o.0, struct_merged _ c.ahead-inner.ensures o.0 o.1 c.in-Ok.is c.ahead.ensures c.counted-children.ensures.count c.counted-children.ensures.at p.1)
 
 pub merge_type-returns-then-mine-eq-NULL : goal.merge_type-returns-then-mine-eq-NULL
 merge_type-returns-then-mine-eq-NULL t c = let t = c.take_type.ensures in (t.0, type_taken _ c.code_at-mine.ensures c.byte-theirs.ensures.0 c.if-mine-eq-NULL.true t.1)
@@ -79,7 +79,7 @@ pub pour_own-returns : goal.pour_own-returns
 pour_own-returns t c =
     let o = c.open_struct-opened.ensures in
     let p = c.pour.ensures in
-    (p.0 ∙ o.0, struct_poured _ (not_struct c.kind_at.ensures (search rules)) c.ahead.ensures c.three-own.ensures.0 c.ahead-inner.ensures c.ahead-2.ensures c.two-count.ensures.0 o.0 o.1 c.ahead-3.ensures p.1)
+    (p.0 ∙ o.0, struct_poured _ (not_struct c.kind_at.ensures (search rules)) c.ahead.ensures c.three-own.ensures.0 c.ahead-inner.ensures c.ahead-2.ensures c.counted-children.ensures.count o.0 o.1 c.counted-children.ensures.at p.1)
 
 pub put-returns-in_ok-used-in-Ok : goal.put-returns-in_ok-used-in-Ok
 put-returns-in_ok-used-in-Ok t c =

@@ -31,4 +31,4 @@ abbrev pub decreases-put : goal.decreases-put
 decreases-put l = 8 * l.levels + 4
 
 abbrev pub invariant-pour-loop : goal.invariant-pour-loop
-invariant-pour-loop l = Pouring l.parked l.levels l.s l.initial.w l.w l.used l.row l.q l.count l.held l.hint l.place (l.count - l.counter)
+invariant-pour-loop l = Pouring l.parked l.levels l.s l.initial.w l.w l.used l.row l.fn.fields.at l.fn.fields.count l.held l.hint l.place (l.end - l.counter)

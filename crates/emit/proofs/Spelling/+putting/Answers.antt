@@ -34,8 +34,8 @@ put_entry-returns t c = entry_puts _ c.put_head-next.ensures c.ahead.ensures c.t
 pub put_row-returns : goal.put_row-returns
 put_row-returns t c = row_puts _ c.count_entries.ensures c.put_two-first.ensures c.put_entries.ensures
 
-pub put_type-returns-then-levels-le0 : goal.put_type-returns-then-levels-le0
-put_type-returns-then-levels-le0 t c = no_level _ c.if-levels-le0.true
+pub put_type-returns-then-levels-eq0 : goal.put_type-returns-then-levels-eq0
+put_type-returns-then-levels-eq0 t c = no_level _ (omega (arith, c.if-levels-eq0.true))
 
 pub put_type-returns-in-Raw : goal.put_type-returns-in-Raw
 put_type-returns-in-Raw t c = type_raw _ refl c.ahead.ensures c.three-x.ensures.0 (is_raw c.kind_at.ensures c.in-Raw.is) c.put_raw.ensures
