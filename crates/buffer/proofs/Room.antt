@@ -1,31 +1,18 @@
--- The test of document 01's 32, "work buffer below 4 times the sheet bytes given", without a product that could be too large for a usize.
+-- What the test of document 01's 32, "work buffer below 4 times the sheet bytes given", tells a call.
 use mathlib.Core.Path.{◌≡◌, refl, sym, ◌∙◌}
 use mathlib.Core.Bool.{Bool, true, false}
-use Prim.Native.Nat.{ℕ, ◌+◌, ◌-◌, ◌*◌, ◌/◌, ◌≤◌, ◌<◌}
-use native.Mathlib.Omega.{arith}
+use Prim.Native.Nat.{ℕ, ◌*◌, ◌≤◌}
 use lib.Dec.{ltb}
-use borrow.Author.Tests.{ltb-true, ltb-false, lt-ltb, le-ltb}
+use borrow.Author.Tests.{ltb-false}
+use Rattle.std.specs.Prelude.{Result, Ok}
 use Rattle.model.specs.Numbers.{work_bytes_per_sheet_byte}
+use Rattle.buffer.specs.declared.refusal.Refusal.{Refusal}
+use Rattle.buffer.specs.Puts.{unless_short}
 
--- two tests that hold for the same numbers are one
-same_test : (a b m n : ℕ) → (a < b → m < n) → (b ≤ a → n ≤ m) → ltb a b ≡ ltb m n
-same_test a b m n f g = go (ltb a b) refl
+-- what a call knows of its work buffer once its test for 32 let it go on
+pub room_enough : {r : Result Unit Refusal} (work given : ℕ) → r ≡ unless_short (ltb work (work_bytes_per_sheet_byte * given)) → r ≡ Ok tt → work_bytes_per_sheet_byte * given ≤ work
+room_enough work given tested h = go (ltb work (work_bytes_per_sheet_byte * given)) refl (sym h ∙ tested)
   where
-    go : (t : Bool) → ltb a b ≡ t → t ≡ ltb m n
-    go true e = sym (lt-ltb m n (f (ltb-true a b e)))
-    go false e = sym (le-ltb m n (g (ltb-false a b e)))
-
--- by the quotient
-pub room_quotient : (work given : ℕ) → ltb (work / work_bytes_per_sheet_byte) given ≡ ltb work (work_bytes_per_sheet_byte * given)
-room_quotient work given = same_test (work / work_bytes_per_sheet_byte) given work (work_bytes_per_sheet_byte * given) (λ h. omega arith) (λ h. omega arith)
-
--- two sheets: what the first leaves is compared for the second
-pub room_rest : (work one other : ℕ) → work_bytes_per_sheet_byte * one ≤ work
-    → ltb (work - work_bytes_per_sheet_byte * one) (work_bytes_per_sheet_byte * other) ≡ ltb work (work_bytes_per_sheet_byte * (one + other))
-room_rest work one other h =
-    same_test (work - work_bytes_per_sheet_byte * one) (work_bytes_per_sheet_byte * other) work (work_bytes_per_sheet_byte * (one + other))
-    (λ k. omega arith) (λ k. omega arith)
-
--- what a call knows of its work buffer once the test `t` for 32 was false
-pub room_enough : {t : Bool} (work given : ℕ) → t ≡ ltb work (work_bytes_per_sheet_byte * given) → t ≡ false → work_bytes_per_sheet_byte * given ≤ work
-room_enough work given tested h = ltb-false work (work_bytes_per_sheet_byte * given) (sym tested ∙ h)
+    go : (t : Bool) → ltb work (work_bytes_per_sheet_byte * given) ≡ t → ◌≡◌ {A = Result Unit Refusal} (Ok tt) (unless_short t) → work_bytes_per_sheet_byte * given ≤ work
+    go true e q = cc
+    go false e q = ltb-false work (work_bytes_per_sheet_byte * given) e

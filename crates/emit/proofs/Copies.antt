@@ -1,162 +1,186 @@
 -- What is copied from the train by a row of places.
-use Prim.Native.Nat.{ℕ, ◌+◌, ◌-◌, ◌/◌, ◌%◌, ◌≤◌, ◌<◌, ◌*◌}
+use Prim.Native.Nat.{ℕ, ◌/◌, ◌%◌, ◌≤◌, ◌<◌}
 use native.Mathlib.Omega.{arith}
-use mathlib.Core.Path.{◌≡◌, refl, sym, ap, subst, ◌∙◌}
-use mathlib.Core.List.{List, [], ◌∷◌, ◌++◌, append_assoc, append-nil}
-use mathlib.Core.Bool.{Bool, true, false, not}
-use lib.ListN.{length, length-append}
-use lib.Dec.{eqb}
-use borrow.Author.Tests.{eq-eqb, ne_eqb}
+use mathlib.Core.Path.{◌≡◌, refl, sym, ap, ap₂, subst, ◌∙◌}
+use mathlib.Core.List.{List, [], ◌∷◌, ◌++◌}
+use mathlib.Core.Bool.{Bool, true, false}
+use lib.ListN.{length, length-append, length-map}
+use Rattle.std.specs.Prelude.{Option, None, Some, is_some, map}
+use Rattle.std.specs.Iterator.{AlwaysYields, Drains}
+use Rattle.std.proofs.lemmas.Iterator.{YieldsList}
+use Rattle.std.proofs.lemmas.Iterator.Consumers.{count_from_yields_List}
 use Rattle.model.specs.Numbers.{max_sheet_bytes}
 use Rattle.model.specs.Bytes.{Bytes, Every, u16}
 use Rattle.model.specs.Sheet.{each, with_count, stands, text_bytes, pair_bytes}
 use Rattle.model.proofs.Lists.{every_unit}
 use Rattle.buffer.specs.Puts.{Puts}
+use Rattle.buffer.proofs.Puts.{puts_same}
 use Rattle.walk.specs.Stands.{Stands, Skips}
-use Rattle.walk.proofs.Standing.{skip_ahead, skip_join}
-use Rattle.table.specs.Table.{u24, three, no_place, Rows, none, more, Refer, none_left, one_place, places_bytes, Places}
-use Rattle.table.proofs.Numbers.{length_u24, three_stands}
-use Rattle.table.proofs.Entries.{SkipsPlaces, refer_small}
-use Rattle.emit.specs.Emission.{HasPlaces, CountsPlaces, PutsPairs, PutsMetadata}
-use Rattle.emit.proofs.Going.{Going, going_out, going_done, going_again}
+use Rattle.walk.proofs.Standing.{skip_join}
+use Rattle.table.specs.Table.{no_place, Refer, none_left, one_place, places_bytes, Places}
+use Rattle.table.specs.Row.{GivesPlace}
+use Rattle.table.specs.declared.PlaceRow.{PlaceRow}
+use Rattle.table.proofs.Entries.{refer_small}
+use Rattle.table.proofs.Given.{row_gives}
+use Rattle.table.proofs.Places.{refer_length}
+use Rattle.emit.specs.Emission.{HasPlaces, EndsAt, PutsPlaces, PutsMetadata}
 use Rattle.emit.proofs.Putting.{PutsPart, Onward, onward_begin, onward_one, onward_done, onward_beyond, puts_counted_list, puts_part, puts_no_part}
 
--- Whether a row has places, and how many
+-- a row that begins at a place of the table
+abbrev Begins : (w : Bytes) (place : ℕ) → PlaceRow → Type 0
+Begins w place row = (row.w.now ≡ w) × (row.at ≡ place)
 
-length_places : (ps : List ℕ) → length (places_bytes ps) ≡ 3 * length ps + 3
-length_places ps = omega (arith, length-append (each u24 ps) (u24 no_place), go ps, length_u24 no_place)
-  where
-    go : (ps : List ℕ) → length (each u24 ps) ≡ 3 * length ps
-    go [] = refl
-    go (p ∷ ps) = omega (arith, length-append (u24 p) (each u24 ps), length_u24 p, go ps)
+-- Whether a row has places
 
-module _ {w : Bytes} {place : ℕ} where
-  -- the number at the front of a row of places
-  front_is : (p : ℕ) (ps : List ℕ) → p < no_place → Stands w place (places_bytes (p ∷ ps)) → three w place ≡ p
-  front_is p ps h st = three_stands p (each u24 ps ++ u24 no_place) (omega (arith, h)) (subst (Stands w place) (append_assoc (u24 p) (each u24 ps) (u24 no_place)) st)
+module _ {w : Bytes} {place : ℕ} (row behind : PlaceRow) (i : Begins w place row) where
+  pub has_places : (r : Option ℕ) → GivesPlace row r behind → HasPlaces w place (is_some r)
+  has_places None h [] g st = refl
+  has_places None h (p ∷ ps) g st = let y : YieldsList GivesPlace (λ x. x) row (p ∷ ps) = row_gives (p ∷ ps) i g st in absurd (y.runs.0 behind h)
+  has_places (Some x) h [] g st = let y : YieldsList GivesPlace (λ x. x) row [] = row_gives [] i g st in absurd (y.runs x behind h)
+  has_places (Some x) h (p ∷ ps) g st = refl
 
-  -- the end
-  pub end_is : Stands w place (u24 no_place) → three w place ≡ no_place
-  end_is st = three_stands no_place [] (omega arith) (subst (Stands w place) (sym (append-nil (u24 no_place))) st)
+refer_stands : {A : Type 0} {s : Bytes} {write : A → Bytes} {ps : List ℕ} {xs : List A} → Refer s write ps xs → stands ps ≡ stands xs
+refer_stands none_left = refl
+refer_stands (one_place h st r) = refl
 
-  pub has_places : {n : ℕ} → n ≡ three w place → HasPlaces w place (not (eqb n no_place))
-  has_places {n} e [] g st = ap not (eq-eqb n no_place (e ∙ end_is st))
-  has_places {n} e (p ∷ ps) g st = ap not (ne_eqb n no_place λ h. omega (arith, h, e, g.0, front_is p ps g.0 st))
+module _ {A : Type 0} {s : Bytes} {write : A → Bytes} {w : Bytes} {place : ℕ} {k : ℕ} {y : Bytes} {xs : List A} (p : Places s write k y xs) (st : Stands w place y) where
+  row_stands : Stands w place (places_bytes p.places)
+  row_stands = subst (Stands w place) p.bytes st
 
-  module _ {end : ℕ} (f : SkipsPlaces w place end) where
-    ends : (ps : List ℕ) → Every (λ p. p < no_place) ps → Stands w place (places_bytes ps) → end ≡ place + (3 * length ps + 3)
-    ends ps g st = (f ps g).behind st ∙ ap (λ n. place + n) (length_places ps)
+  -- the row's verdict is that of the elements
+  pub places_stand : {b : Bool} → HasPlaces w place b → b ≡ stands xs
+  places_stand f = f p.places (refer_small p.refer) row_stands ∙ refer_stands p.refer
 
-    pub count_none : {r : ℕ} → end ≤ place → CountsPlaces w place r
-    count_none h ps g st = absurd (omega (arith, h, ends ps g st))
+-- The loop that copies parts of the train
 
-    pub count_no_end : {r : ℕ} → (end - place) / 3 ≡ 0 → CountsPlaces w place r
-    count_no_end h ps g st = absurd (omega (arith, h, ends ps g st))
+module _ (ends : ℕ → ℕ → Type 0) (s w : Bytes) (first : ℕ) (d₀ : Bytes) (p : ℕ) where
+  -- of the parts bs these are left, and the row gives their places
+  record Left (bs : List Bytes) (row : PlaceRow) (d : Bytes) (q : ℕ) : Type 0 where
+    places : List ℕ
+    left : List Bytes
+    refer : Refer s (λ b. b) places left
+    good : Every (EndsAt ends s) left
+    gives : AlwaysYields GivesPlace (λ x. x) row places
+    goal : Onward (λ b. b) bs d₀ p d q left
 
-    pub count_is : CountsPlaces w place ((end - place) / 3 - 1)
-    count_is ps g st = omega (arith, ends ps g st)
-
--- A row of places by its elements: the place of one, at which it stands; W holds of it
-pub record CopyOf {A : Type 0} (s : Bytes) (write : A → Bytes) (W : A → Type 0) (k : ℕ) (y : Bytes) (x : A) : Type 0 where
-  pub place : ℕ
-  pub small : place < no_place
-  pub bytes : y ≡ u24 place
-  pub stands : Stands s place (write x)
-  pub good : W x
-
-module _ {A : Type 0} {s : Bytes} {write : A → Bytes} where
-  refer_rows : (W : A → Type 0) {ps : List ℕ} {xs : List A} → Refer s write ps xs → Every W xs → Rows (CopyOf s write W) 0 (each u24 ps) xs
-  refer_rows W none_left g = none
-  refer_rows W (one_place {p = p} h st r) g = more {k = 0} {m = 0} (record { place = p; small = h; bytes = refl; stands = st; good = g.0 }) (refer_rows W r g.1)
-
-  refer_stands : {ps : List ℕ} {xs : List A} → Refer s write ps xs → stands ps ≡ stands xs
-  refer_stands none_left = refl
-  refer_stands (one_place h st r) = refl
-
-  refer_length : {ps : List ℕ} {xs : List A} → Refer s write ps xs → length ps ≡ length xs
-  refer_length none_left = refl
-  refer_length (one_place h st r) = omega (arith, refer_length r)
-
-  module _ {w : Bytes} {place : ℕ} {k : ℕ} {y : Bytes} {xs : List A} (p : Places s write k y xs) (st : Stands w place y) where
-    row_stands : Stands w place (places_bytes p.places)
-    row_stands = subst (Stands w place) p.bytes st
-
-    -- the row's verdicts are those of the elements
-    pub places_stand : {b : Bool} → HasPlaces w place b → b ≡ stands xs
-    places_stand f = f p.places (refer_small p.refer) row_stands ∙ refer_stands p.refer
-
-    pub places_count : {n : ℕ} → CountsPlaces w place n → n ≡ length xs
-    places_count f = f p.places (refer_small p.refer) row_stands ∙ refer_length p.refer
-
--- The loop that copies them
-
-module _ {A : Type 0} (write : A → Bytes) (W : A → Type 0) (s w : Bytes) where
-  -- what is left of each row that stands from `first` on
-  pub record Copying (first : ℕ) (d₀ : Bytes) (p place : ℕ) (d : Bytes) (q : ℕ) : Type 0 where
-    pub going : {k : ℕ} {y : Bytes} {xs : List A} → Places s write k y xs → Every W xs → Stands w first y → Going (CopyOf s write W) (u24 no_place) w (Onward write xs d₀ p d q) place
+  -- so it is of each row that stands at `first`
+  pub record Copying (row : PlaceRow) (d : Bytes) (q : ℕ) : Type 0 where
+    going : {k : ℕ} {y : Bytes} {bs : List Bytes} → Places s (λ b. b) k y bs → Every (EndsAt ends s) bs → Stands w first y → Left bs row d q
 
   -- all are put
-  abbrev pub PutsCopies : (first : ℕ) (d₀ : Bytes) (p : ℕ) (d : Bytes) (q : ℕ) → Type 0
-  PutsCopies first d₀ p d q = (k : ℕ) (y : Bytes) (xs : List A) → Places s write k y xs → Every W xs → Stands w first y → Puts (each write xs) d₀ p d q
+  abbrev pub PutsParts : (d : Bytes) (q : ℕ) → Type 0
+  PutsParts d q = (k : ℕ) (y : Bytes) (bs : List Bytes) → Places s (λ b. b) k y bs → Every (EndsAt ends s) bs → Stands w first y → Puts (each (λ b. b) bs) d₀ p d q
 
-  pub copying_begin : {first : ℕ} {d : Bytes} {p : ℕ} → Copying first d p first d p
-  copying_begin {first} {d} {p} = record {
-    going = λ {k} {y} {xs} r g st. record {
-      left = xs;
-      bytes = each u24 r.places;
-      room = 0;
-      rows = refer_rows W r.refer g;
-      stands = subst (Stands w first) r.bytes st;
-      goal = onward_begin write;
+  pub copying_begin : {row : PlaceRow} → Begins w first row → Copying row d₀ p
+  copying_begin i = record {
+    going = λ {k} {y} {bs} r g st. record {
+      places = r.places;
+      left = bs;
+      refer = r.refer;
+      good = g;
+      gives = (row_gives r.places i (refer_small r.refer) (row_stands r st)).runs;
+      goal = onward_begin (λ b. b);
     };
   }
 
-  module _ {first : ℕ} {d₀ : Bytes} {p place : ℕ} {d : Bytes} {q : ℕ} (c : Copying first d₀ p place d q) where
-    pub copying_out : length w ≤ place → PutsCopies first d₀ p d q
-    copying_out h k y xs r g st = absurd (going_out (CopyOf s write W) (u24 no_place) w (c.going r g st) h (omega (arith, length_u24 no_place)))
+  module _ {row : PlaceRow} {d : Bytes} {q : ℕ} (c : Copying row d q) where
+    pub copying_beyond : max_sheet_bytes < q → PutsParts d q
+    copying_beyond h k y bs r g st = onward_beyond (λ b. b) h (c.going r g st).goal
 
-    pub copying_beyond : max_sheet_bytes < q → PutsCopies first d₀ p d q
-    copying_beyond h k y xs r g st = onward_beyond write h (c.going r g st).goal
+    module _ (behind : PlaceRow) where
+      pub copying_done : GivesPlace row None behind → PutsParts d q
+      copying_done h k y bs r g st = go (c.going r g st)
+        where
+          done : (ps : List ℕ) (left : List Bytes) → Refer s (λ b. b) ps left → AlwaysYields GivesPlace (λ x. x) row ps → Onward (λ b. b) bs d₀ p d q left
+              → Puts (each (λ b. b) bs) d₀ p d q
+          done [] [] none_left u o = onward_done (λ b. b) o
+          done (x ∷ ps) (b ∷ left) (one_place i v r') u o = absurd (u.0 behind h)
+          done [] (b ∷ left) r' u o = elim r' [ ]
+          done (x ∷ ps) [] r' u o = elim r' [ ]
 
-    module _ {n : ℕ} (e : n ≡ three w place) where
-      -- the place of the one that stands here
-      here : {k : ℕ} {b : Bytes} {x : A} (v : CopyOf s write W k b x) (z : Bytes) → Stands w place (b ++ z) → n ≡ v.place
-      here v z st = e ∙ three_stands v.place z (omega (arith, v.small)) (subst (λ b. Stands w place (b ++ z)) v.bytes st)
+          go : Left bs row d q → Puts (each (λ b. b) bs) d₀ p d q
+          go l = done l.places l.left l.refer l.gives l.goal
 
-      pub copying_done : n ≡ no_place → PutsCopies first d₀ p d q
-      copying_done h k y xs r g st = onward_done write (going_done (CopyOf s write W) (u24 no_place) w (c.going r g st) λ i b z x v u. omega (arith, h, here v z u, v.small))
+      pub copying_again : {place end : ℕ} {d₁ : Bytes} {q₁ : ℕ} → GivesPlace row (Some place) behind → ends place end → PutsPart s place end d q d₁ q₁ → Copying behind d₁ q₁
+      copying_again {place} {end} {d₁} {q₁} h e f = record { going = λ {k} {y} {bs} r g st. go bs (c.going r g st) }
+        where
+          again : (bs : List Bytes) (ps : List ℕ) (left : List Bytes) → Refer s (λ b. b) ps left → Every (EndsAt ends s) left → AlwaysYields GivesPlace (λ x. x) row ps
+              → Onward (λ b. b) bs d₀ p d q left → Left bs behind d₁ q₁
+          again bs [] [] none_left g u o = absurd (u place behind h)
+          again bs (x ∷ ps) (b ∷ left) (one_place i v r) g u o =
+              let next = u.1 place behind h in
+              let here : Stands s place b = subst (λ n. Stands s n b) (sym next.0) v in
+              let small : place < no_place = omega (arith, i, next.0) in
+              record {
+                places = ps;
+                left = left;
+                refer = r;
+                good = g.1;
+                gives = next.1;
+                goal = onward_one (λ b. b) (f b here ((g.0.1 place end small e).behind here)) o;
+              }
+          again bs [] (b ∷ left) r g u o = elim r [ ]
+          again bs (x ∷ ps) [] r g u o = elim r [ ]
 
-      pub copying_again : (n ≡ no_place → ⊥) → {d₁ : Bytes} {q₁ : ℕ} → ((x : A) → W x → Stands s n (write x) → Puts (write x) d q d₁ q₁) → Copying first d₀ p (place + 3) d₁ q₁
-      copying_again never {d₁} {q₁} f = record {
-        going = λ r g st.
-            going_again (CopyOf s write W) (u24 no_place) w (c.going r g st) (λ u. never (e ∙ end_is u)) (λ i b x v. skip_ahead b (ap length v.bytes ∙ length_u24 v.place) λ j. refl)
-            λ i b x left v u o.
-            onward_one write (f x v.good (subst (λ m. Stands s m (write x)) (sym (here v [] (subst (Stands w place) (sym (append-nil b)) u))) v.stands)) o;
-      }
+          go : (bs : List Bytes) → Left bs row d q → Left bs behind d₁ q₁
+          go bs l = again bs l.places l.left l.refer l.good l.gives l.goal
 
--- Pairs
+parts_long : (ends : ℕ → ℕ → Type 0) (s : Bytes) (bs : List Bytes) → Every (EndsAt ends s) bs → length bs ≤ length (each (λ b. b) bs)
+parts_long ends s [] g = omega arith
+parts_long ends s (b ∷ bs) g = omega (arith, parts_long ends s bs g.1, g.0.0, length-append b (each (λ b. b) bs))
 
-pub pair_puts : {s : Bytes} {place value end : ℕ} {d : Bytes} {p : ℕ} {d' : Bytes} {q : ℕ} → ((t : Bytes) → Skips s place (text_bytes t) value) → ((t : Bytes) → Skips s value (text_bytes t) end)
-    → PutsPart s place end d p d' q → (x : Bytes × Bytes) → Stands s place (pair_bytes x) → Puts (pair_bytes x) d p d' q
-unfolding pair_bytes
-pair_puts f g h x st = h (text_bytes x.0 ++ text_bytes x.1) st ((skip_join (f x.0) (g x.1)).behind st)
+-- the count, and the parts
+pub places_put : (ends : ℕ → ℕ → Type 0) (s w : Bytes) (place : ℕ) {row : PlaceRow} {n : ℕ} {d d₁ d₂ : Bytes} {p q r : ℕ} → Begins w place row
+    → ((xs : List ℕ) × Drains GivesPlace row xs × (n ≡ length xs)) → Puts (n % 256 ∷ n / 256 % 256 ∷ []) d p d₁ q → PutsParts ends s w place d₁ q d₂ r
+    → PutsPlaces ends s w place d p d₂ r
+places_put ends s w place {row} {n} i count two parts k y bs ps g st =
+    puts_counted_list (λ b. b) bs
+    (count_from_yields_List _ n count (row_gives ps.places i (refer_small ps.refer) (row_stands ps st)) ∙ sym (refer_length ps.refer))
+    (parts_long ends s bs g) two (parts k y bs ps g st)
+
+-- The same for elements that are written so
+
+module _ {A : Type 0} (write : A → Bytes) where
+  parts_each : (xs : List A) → each (λ b. b) (map write xs) ≡ each write xs
+  parts_each [] = refl
+  parts_each (x ∷ xs) = ap (λ b. write x ++ b) (parts_each xs)
+
+  parts_counted : (xs : List A) → with_count (λ b. b) (map write xs) ≡ with_count write xs
+  unfolding with_count
+  parts_counted xs = ap₂ (λ n b. u16 n ++ b) (length-map xs write) (parts_each xs)
+
+  parts_refer : {s : Bytes} {ps : List ℕ} {xs : List A} → Refer s write ps xs → Refer s (λ b. b) ps (map write xs)
+  parts_refer none_left = none_left
+  parts_refer (one_place h st r) = one_place h st (parts_refer r)
+
+  parts_good : {s : Bytes} (W : A → Type 0) (ends : ℕ → ℕ → Type 0) → ((x : A) → W x → EndsAt ends s (write x)) → (xs : List A) → Every W xs → Every (EndsAt ends s) (map write xs)
+  parts_good W ends f [] g = tt
+  parts_good W ends f (x ∷ xs) g = (f x g.0, parts_good W ends f xs g.1)
+
+  pub elements_put : (W : A → Type 0) (ends : ℕ → ℕ → Type 0) {s w : Bytes} {place : ℕ} {d : Bytes} {p : ℕ} {d' : Bytes} {r : ℕ} → ((x : A) → W x → EndsAt ends s (write x))
+      → PutsPlaces ends s w place d p d' r
+      → (k : ℕ) (y : Bytes) (xs : List A) → Places s write k y xs → Every W xs → Stands w place y → Puts (with_count write xs) d p d' r
+  elements_put W ends f puts k y xs ps g st =
+      puts_same (parts_counted xs)
+      (puts k y (map write xs) (record { places = ps.places; bytes = ps.bytes; refer = parts_refer ps.refer; room = ps.room }) (parts_good W ends f xs g) st)
+
+-- Metadata
 
 pair_long : (x : Bytes × Bytes) → 0 < length (pair_bytes x)
 unfolding pair_bytes text_bytes u16
 pair_long x = omega arith
 
--- any pair
-abbrev pub AnyPair : Bytes × Bytes → Type 0
-AnyPair x = Unit {0}
-
-pub all_pairs : {s w : Bytes} {place : ℕ} {d : Bytes} {p : ℕ} {d' : Bytes} {r : ℕ} → PutsCopies pair_bytes AnyPair s w place d p d' r → PutsPairs s w place d p d' r
-all_pairs f k y m h st = f k y m h (every_unit m) st
+pub pair_skips : {s : Bytes} {place value end : ℕ} → ((t : Bytes) → Skips s place (text_bytes t) value) → ((t : Bytes) → Skips s value (text_bytes t) end)
+    → (x : Bytes × Bytes) → Skips s place (pair_bytes x) end
+unfolding pair_bytes
+pair_skips f g x = skip_join (f x.0) (g x.1)
 
 module _ {s w : Bytes} {place : ℕ} {d : Bytes} {p : ℕ} {b : Bool} (f : HasPlaces w place b) where
-  pub metadata_puts : {d₁ d₂ : Bytes} {q r n : ℕ} → b ≡ true → CountsPlaces w place n → Puts (n % 256 ∷ n / 256 % 256 ∷ []) d p d₁ q → PutsPairs s w place d₁ q d₂ r
-      → PutsMetadata s w place d p d₂ r
-  metadata_puts e g two pairs k y m h st =
-      puts_part (with_count pair_bytes) m (sym e ∙ places_stand h st f) (puts_counted_list pair_bytes pair_long m (places_count h st g) two (pairs k y m h st))
+  pub metadata_puts : (ends : ℕ → ℕ → Type 0) {d' : Bytes} {r : ℕ} → b ≡ true → ((place end : ℕ) → place < no_place → ends place end → (x : Bytes × Bytes) → Skips s place (pair_bytes x) end)
+      → PutsPlaces ends s w place d p d' r → PutsMetadata s w place d p d' r
+  metadata_puts ends e skips puts k y m h st =
+      puts_part (with_count pair_bytes) m (sym e ∙ places_stand h st f)
+      (elements_put pair_bytes (λ x. Unit {0}) ends (λ x g. (pair_long x, λ place end small i. skips place end small i x)) puts k y m h (every_unit m) st)
 
   pub no_metadata : b ≡ false → PutsMetadata s w place d p d p
   no_metadata e k y m h st = puts_no_part (with_count pair_bytes) m (sym e ∙ places_stand h st f)

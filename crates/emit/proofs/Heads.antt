@@ -7,7 +7,7 @@ use mathlib.Core.Bool.{Bool, false≢true}
 use lib.ListN.{get_or, length-append}
 use lib.Dec.{eqb}
 use borrow.Author.Tests.{eq-eqb, eqb-true}
-use Rattle.model.specs.Bytes.{Bytes, flag}
+use Rattle.model.specs.Bytes.{Bytes, bit, flag}
 use Rattle.model.specs.Tree.{Head, Field}
 use Rattle.model.specs.Sheet.{head_map, front_bytes, dict_id_bytes, dict_id_stands, stands, part, with_count, text_bytes, pair_bytes, head_bytes}
 use Rattle.buffer.specs.Puts.{Puts}
@@ -66,7 +66,8 @@ module _ {s : Bytes} {first map name : ℕ} (e : map ≡ get_or s first 0) (a : 
         puts_join (_ ∷ []) rest (puts_same (ap (λ n. n ∷ []) i) one) (f rest (name_stands h st) (omega (arith, (g h).behind st, name_at h st)))
 
     pub name_puts : {m : ℕ} (metadata : Bool) → m ≡ flag 8 metadata → Puts ((flags % 4 + map / 4 % 2 * 4 + m + map / 16 % 2 * 16) ∷ []) d p d₁ q
-        → ((t : Bytes) → stands t ≡ eqb (map / 4 % 2) 1 → Skips s name (part text_bytes t) end) → PutsName s first flags metadata d p d₂ r
+        → ((t : Bytes) → stands t ≡ bit 2 map → Skips s name (part text_bytes t) end) → PutsName s first flags metadata d p d₂ r
+    unfolding bit
     name_puts {m} metadata k one g h st =
         let w = map_stands e h st in
         let i : flags % 4 + map / 4 % 2 * 4 + m + map / 16 % 2 * 16 ≡ flag 1 (eqb (flags % 2) 1) + flag 2 (eqb (flags / 2 % 2) 1) + flag 4 (stands h.name) + flag 8 metadata + flag 16 (dict_id_stands h.dict_id) =

@@ -1,12 +1,13 @@
 -- What is put: a part of the train, and lists element by element, those that are left, the count before them, and the part under a bit.
-use Prim.Native.Nat.{ℕ, ◌+◌, ◌%◌, ◌/◌, ◌≤◌, ◌<◌}
+use Prim.Native.Nat.{ℕ, ◌+◌, ◌*◌, ◌%◌, ◌/◌, ◌≤◌, ◌<◌}
 use native.Mathlib.Omega.{arith}
 use mathlib.Core.Path.{◌≡◌, refl, sym, ap, ◌∙◌}
 use mathlib.Core.List.{List, [], ◌∷◌, ◌++◌}
-use mathlib.Core.Bool.{true, false, false≢true}
-use lib.ListN.{length, length-append}
+use mathlib.Core.Bool.{Bool, true, false, false≢true}
+use Rattle.std.specs.Int.{from_bool}
+use lib.ListN.{length}
 use Rattle.model.specs.Numbers.{max_sheet_bytes}
-use Rattle.model.specs.Bytes.{Bytes, u16}
+use Rattle.model.specs.Bytes.{Bytes, u16, flag}
 use Rattle.model.specs.Sheet.{each, with_count, part, stands}
 use Rattle.buffer.specs.Puts.{Puts}
 use Rattle.buffer.proofs.Puts.{puts_none, puts_beyond, puts_as, puts_join, two_bytes_lem}
@@ -15,6 +16,11 @@ use Rattle.walk.specs.Stands.{Stands}
 -- what `put_part` ensures
 abbrev pub PutsPart : (s : Bytes) (from to : ℕ) (d : Bytes) (p : ℕ) (d' : Bytes) (r : ℕ) → Type 0
 PutsPart s from to d p d' r = (b : Bytes) → Stands s from b → to ≡ from + length b → Puts b d p d' r
+
+-- a bit of this value is added to a map where it is set
+pub flag_of : (n : ℕ) (set : Bool) {m : ℕ} → m ≡ from_bool set → m * n ≡ flag n set
+flag_of n true e = rw e (omega arith)
+flag_of n false e = rw e (omega arith)
 
 module _ {A : Type 0} (write : A → Bytes) where
   -- with those that are left put from q on, all are put from p on
@@ -34,18 +40,13 @@ module _ {A : Type 0} (write : A → Bytes) where
   pub onward_begin : {xs : List A} {d : Bytes} {p : ℕ} → Onward xs d p d p xs
   onward_begin = record { whole = λ d' r h. h }
 
-  module _ (long : (x : A) → 0 < length (write x)) where
-    each_long : (xs : List A) → length xs ≤ length (each write xs)
-    each_long [] = omega arith
-    each_long (x ∷ xs) = omega (arith, each_long xs, long x, length-append (write x) (each write xs))
-
-    -- The count, then as many. Where the count passes 65,535, so does the answer.
-    pub puts_counted_list : {d d₁ d₂ : Bytes} {p q r n : ℕ} (xs : List A) → n ≡ length xs → Puts (n % 256 ∷ n / 256 % 256 ∷ []) d p d₁ q → Puts (each write xs) d₁ q d₂ r
-        → Puts (with_count write xs) d p d₂ r
-    unfolding with_count u16
-    puts_counted_list {p = p} {n = n} xs e f g =
-        puts_as ((n % 256 ∷ n / 256 % 256 ∷ []) ++ each write xs) (u16 (length xs) ++ each write xs) refl
-        (λ h. ap (λ b. b ++ each write xs) (two_bytes_lem n (omega (arith, e, h, each_long xs)) ∙ ap u16 e)) (puts_join (n % 256 ∷ n / 256 % 256 ∷ []) (each write xs) f g)
+  -- The count, then as many. Where the count passes 65,535, so does the answer.
+  pub puts_counted_list : {d d₁ d₂ : Bytes} {p q r n : ℕ} (xs : List A) → n ≡ length xs → length xs ≤ length (each write xs)
+      → Puts (n % 256 ∷ n / 256 % 256 ∷ []) d p d₁ q → Puts (each write xs) d₁ q d₂ r → Puts (with_count write xs) d p d₂ r
+  unfolding with_count u16
+  puts_counted_list {p = p} {n = n} xs e long f g =
+      puts_as ((n % 256 ∷ n / 256 % 256 ∷ []) ++ each write xs) (u16 (length xs) ++ each write xs) refl
+      (λ h. ap (λ b. b ++ each write xs) (two_bytes_lem n (omega (arith, e, h, long)) ∙ ap u16 e)) (puts_join (n % 256 ∷ n / 256 % 256 ∷ []) (each write xs) f g)
 
 -- A part under a bit
 

@@ -4,13 +4,13 @@ use native.Mathlib.Omega.{arith}
 use mathlib.Core.Path.{◌≡◌, refl, sym, ap, subst, ◌∙◌}
 use mathlib.Core.List.{List, [], ◌∷◌, ◌++◌, append_assoc}
 use mathlib.Core.Bool.{not}
-use lib.ListN.{length, get_or}
+use lib.ListN.{length, get_or, length-append}
 use lib.Dec.{eqb}
 use borrow.Author.Tests.{eq-eqb, ne_eqb}
 use Rattle.model.specs.Numbers.{max_sheet_bytes}
 use Rattle.model.specs.Bytes.{Bytes}
 use Rattle.model.specs.Tree.{Head, Field}
-use Rattle.model.specs.Sheet.{front_bytes, stands, head_bytes, field_bytes, type_bytes}
+use Rattle.model.specs.Sheet.{front_bytes, each, stands, head_bytes, field_bytes, type_bytes}
 use Rattle.model.proofs.WellFormed.{type_laid_out}
 use Rattle.buffer.specs.Puts.{Puts}
 use Rattle.buffer.proofs.Puts.{puts_join}
@@ -41,6 +41,10 @@ entry_puts {s} {w} levels {place} head a i skip own type l k y f h e st =
 field_long : (l : ℕ) (f : Field l) → 0 < length (field_bytes (type_bytes l) f)
 unfolding field_bytes front_bytes head_bytes
 field_long l f = omega arith
+
+fields_long : (l : ℕ) (fs : List (Field l)) → length fs ≤ length (each (field_bytes (type_bytes l)) fs)
+fields_long l [] = omega arith
+fields_long l (f ∷ fs) = omega (arith, fields_long l fs, field_long l f, length-append (field_bytes (type_bytes l) f) (each (field_bytes (type_bytes l)) fs))
 
 -- The loops over the entries of a row
 
@@ -152,4 +156,4 @@ module _ {s w : Bytes} {first : ℕ} (levels : ℕ) {d₀ : Bytes} {p place : �
 pub row_puts : {s w : Bytes} {place : ℕ} (levels : ℕ) {n : ℕ} {d d₁ d₂ : Bytes} {p q r : ℕ} → CountsEntries w place levels n → Puts (n % 256 ∷ n / 256 % 256 ∷ []) d p d₁ q
     → PutsEntries s w place levels d₁ q d₂ r → PutsRow s w place levels d p d₂ r
 row_puts {s} levels c two f l k y fs i h st =
-    puts_counted_list (field_bytes (type_bytes l)) (field_long l) fs (c l s k y fs i h st) two (f l k y fs i h st)
+    puts_counted_list (field_bytes (type_bytes l)) fs (c l s k y fs i h st) (fields_long l fs) two (f l k y fs i h st)

@@ -7,35 +7,30 @@ use Rattle.model.specs.Tree.{Head, DataType, Field}
 use Rattle.model.specs.Sheet.{dict_id_bytes, dict_id_stands, each, with_count, part, stands, text_bytes, pair_bytes, head_bytes, field_bytes, type_bytes, column_bytes}
 use Rattle.model.specs.WellFormed.{LaidOut, Whole}
 use Rattle.buffer.specs.Puts.{Puts}
-use Rattle.walk.specs.Stands.{Stands, member_bytes}
+use Rattle.walk.specs.Stands.{Stands, Skips, member_bytes}
 use Rattle.table.specs.Table.{no_place, places_bytes, Places, SpellType, SpellField, SpellRow}
 use Rattle.emit.specs.Survivor.{survivor}
 
 -- Rows of places
 
--- whether there are any, and how many
-
+-- whether there are any
 abbrev pub HasPlaces : (w : Bytes) (place : ℕ) (r : Bool) → Type 0
 HasPlaces w place r = (ps : List ℕ) → Every (λ p. p < no_place) ps → Stands w place (places_bytes ps) → r ≡ stands ps
 
-abbrev pub CountsPlaces : (w : Bytes) (place r : ℕ) → Type 0
-CountsPlaces w place r = (ps : List ℕ) → Every (λ p. p < no_place) ps → Stands w place (places_bytes ps) → r ≡ length ps
+-- the part of the train that stands at a place ends where `ends` says of it; it is not empty
+abbrev pub EndsAt : (ends : ℕ → ℕ → Type 0) (s : Bytes) → Bytes → Type 0
+EndsAt ends s b = (0 < length b) × ((place end : ℕ) → place < no_place → ends place end → Skips s place b end)
 
--- the pairs, without their count; and metadata, which is nothing where there are none
+-- the count of a row, and the parts of the train at its places
+abbrev pub PutsPlaces : (ends : ℕ → ℕ → Type 0) (s w : Bytes) (place : ℕ) (d : Bytes) (p : ℕ) (d' : Bytes) (r : ℕ) → Type 0
+PutsPlaces ends s w place d p d' r =
+    (k : ℕ) (y : Bytes) (bs : List Bytes) → Places s (λ b. b) k y bs → Every (EndsAt ends s) bs → Stands w place y → Puts (with_count (λ b. b) bs) d p d' r
 
-abbrev pub PutsPairs : (s w : Bytes) (place : ℕ) (d : Bytes) (p : ℕ) (d' : Bytes) (r : ℕ) → Type 0
-PutsPairs s w place d p d' r = (k : ℕ) (y : Bytes) (m : Metadata) → Places s pair_bytes k y m → Stands w place y → Puts (each pair_bytes m) d p d' r
-
+-- metadata, which is nothing where there are no pairs
 abbrev pub PutsMetadata : (s w : Bytes) (place : ℕ) (d : Bytes) (p : ℕ) (d' : Bytes) (r : ℕ) → Type 0
 PutsMetadata s w place d p d' r = (k : ℕ) (y : Bytes) (m : Metadata) → Places s pair_bytes k y m → Stands w place y → Puts (part (with_count pair_bytes) m) d p d' r
 
--- the children of a union of at most so many levels, without their count; and all that follows its code, the mode standing in the train
-
-abbrev pub PutsMembers : (s w : Bytes) (place levels : ℕ) (d : Bytes) (p : ℕ) (d' : Bytes) (r : ℕ) → Type 0
-PutsMembers s w place levels d p d' r =
-    (l k : ℕ) (y : Bytes) (fs : List (Field l)) → l ≤ levels → Places s (member_bytes l) k y fs → Every (λ f. Whole l f.data_type) fs → Stands w place y
-    → Puts (each (member_bytes l) fs) d p d' r
-
+-- all that follows the code of a union of at most so many levels, its mode standing in the train
 abbrev pub PutsUnion : (s w : Bytes) (mode place levels : ℕ) (d : Bytes) (p : ℕ) (d' : Bytes) (r : ℕ) → Type 0
 PutsUnion s w mode place levels d p d' r =
     (l k : ℕ) (y : Bytes) (fs : List (Field l)) → l ≤ levels → Places s (member_bytes l) k y fs → Every (λ f. Whole l f.data_type) fs → Stands w place y

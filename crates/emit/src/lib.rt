@@ -4,106 +4,46 @@
 #![tactic(auto)]
 
 ghost use Rattle.std.specs.Prelude.{◌≡◌, [], ◌∷◌, ℕ, ◌≤◌, get_or};
-ghost use Rattle.model.specs.Bytes.{Bytes, flag};
+ghost use Rattle.model.specs.Bytes.{Bytes};
 ghost use Rattle.model.specs.Tree.{Field, Schema};
 ghost use Rattle.model.specs.Sheet.{pair_bytes, sheet_bytes};
 ghost use Rattle.model.specs.WellFormed.{Whole};
 ghost use Rattle.buffer.specs.Puts.{Puts};
-ghost use Rattle.walk.specs.Stands.{Stands, member_bytes};
+ghost use Rattle.walk.specs.Stands.{Stands, Skips, member_bytes};
 ghost use Rattle.table.specs.Table.{SpellSchema};
 ghost use Rattle.emit.specs.Survivor.{IsFrontType, IsSurvivor};
-ghost use Rattle.emit.specs.Emission.{HasPlaces, CountsPlaces, PutsPairs, PutsMetadata, PutsMembers, PutsUnion, PutsRawHead, PutsDictId, PutsName, PutsHead, PutsSurvivor, PutsType, PutsEntry, HasEntries, CountsEntries, PutsEntries, PutsRow, PutsColumns};
+ghost use Rattle.emit.specs.Emission.{HasPlaces, PutsPlaces, PutsMetadata, PutsUnion, PutsRawHead, PutsDictId, PutsName, PutsHead, PutsSurvivor, PutsType, PutsEntry, HasEntries, CountsEntries, PutsEntries, PutsRow, PutsColumns};
 
+use layout::NULL;
 use sheet::Cursor;
-
-// The code of the type that gives way.
-const NULL: usize = 0;
-
-// The kinds of a type's entry; the last one is a union's.
-const RAW: usize = 0;
-
-const OPEN_STRUCT: usize = 1;
-
-const OPEN_LIST: usize = 2;
-
-// What a bit of this value adds to a map.
-fn flag(value: usize, set: bool) -> usize
-    ensures { (result ≡ flag value set) × (result ≤ value) }
-{
-    if set {
-        return value;
-    }
-    0
-}
+use table::{Kind, PlaceRow};
 
 // Copies the byte at a place of the train.
 fn put_copy(s: &[u8], at: usize, dst: &mut [u8], pos: usize) -> usize
     ensures { Puts (get_or s.now at 0 ∷ []) dst.old pos dst.new result }
 {
-    let byte = walk::byte(s, at);
-    buffer::put_one(dst, pos, byte as u8)
+    buffer::put_one(dst, pos, s.get(at).copied().unwrap_or(0))
 }
 
 // Whether a row of places has any.
 fn has_places(w: &[u8], at: usize) -> bool
     ensures { HasPlaces w.now at result }
 {
-    table::three(w, at) != table::NO_PLACE
+    PlaceRow::new(w, at).next().is_some()
 }
 
-// How many places a row has: three bytes each, and as many for the end.
-fn count_places(w: &[u8], at: usize) -> usize
-    ensures { CountsPlaces w.now at result }
+// A pair of the train.
+fn skip_pair(s: &[u8], at: usize) -> usize
+    ensures { (p : Bytes × Bytes) → Skips s.now at (pair_bytes p) result }
 {
-    let end = table::skip_places(w, at);
-    if end <= at {
-        return 0;
-    }
-    let count = (end - at) / 3;
-    if count == 0 {
-        return 0;
-    }
-    count - 1
+    walk::skip_text(s, walk::skip_text(s, at))
 }
 
-// A pair, as it stands in the train.
-fn put_pair(s: &[u8], at: usize, dst: &mut [u8], pos: usize) -> usize
-    ensures { (p : Bytes × Bytes) → Stands s.now at (pair_bytes p) → Puts (pair_bytes p) dst.old pos dst.new result }
+// A union child of the train: its id and its field.
+fn skip_member(s: &[u8], at: usize, levels: usize) -> usize
+    ensures { (l : ℕ) (f : Field l) → l ≤ levels → Whole l f.data_type → Skips s.now at (member_bytes l f) result }
 {
-    let value = walk::skip_text(s, at);
-    let end = walk::skip_text(s, value);
-    walk::put_part(dst, pos, s, at, end)
-}
-
-// The pairs of a row of places. What passes the longest answer is not gone over.
-fn put_pairs(s: &[u8], w: &[u8], at: usize, dst: &mut [u8], pos: usize) -> usize
-    ensures { PutsPairs s.now w.now at dst.old pos dst.new result }
-{
-    let mut place = at;
-    let mut next = pos;
-    while place < w.len() {
-        let pair = table::three(w, place);
-        if pair == table::NO_PLACE {
-            return next;
-        }
-        if buffer::MAX_ANSWER_BYTES < next {
-            return next;
-        }
-        next = put_pair(s, pair, dst, next);
-        place += 3;
-    }
-    next
-}
-
-// Metadata: nothing, or the count and the pairs.
-fn put_metadata(s: &[u8], w: &[u8], at: usize, dst: &mut [u8], pos: usize) -> usize
-    ensures { PutsMetadata s.now w.now at dst.old pos dst.new result }
-{
-    if has_places(w, at) {
-        let next = buffer::put_two(dst, pos, count_places(w, at));
-        return put_pairs(s, w, at, dst, next);
-    }
-    pos
+    walk::skip_field(s, walk::ahead(s, at, 1), levels)
 }
 
 // The head of an entry that has no metadata of its own: that of the first occurrence, which stands at a place of the train, but for the
@@ -148,25 +88,10 @@ fn put_name(
 {
     let map = walk::byte(s, first);
     let name = walk::ahead(s, first, 1);
-    let end = walk::skip_text_if(s, name, map / 4 % 2 == 1);
-    let own = flags % 4 + map / 4 % 2 * 4 + flag(8, metadata) + map / 16 % 2 * 16;
+    let end = walk::skip_if(s, name, walk::bit(map, 2), walk::skip_text);
+    let own = flags % 4 + map / 4 % 2 * 4 + usize::from(metadata) * 8 + map / 16 % 2 * 16;
     let next = buffer::put_one(dst, pos, own as u8);
     walk::put_part(dst, next, s, name, end)
-}
-
-// The head of an entry.
-fn put_head(s: &[u8], w: &[u8], at: usize, dst: &mut [u8], pos: usize) -> usize
-    ensures { PutsHead s.now w.now at dst.old pos dst.new result }
-{
-    let flags = walk::byte(w, at);
-    let first = table::three(w, walk::ahead(w, at, 1));
-    if flags / 4 == 1 {
-        let pairs = walk::ahead(w, at, 4);
-        let next = put_name(s, first, flags, has_places(w, pairs), dst, pos);
-        let end = put_metadata(s, w, pairs, dst, next);
-        return put_dict_id(s, first, dst, end);
-    }
-    put_raw_head(s, first, flags, dst, pos)
 }
 
 // The type of at most so many levels that some bytes begin with.
@@ -174,7 +99,7 @@ fn front_type<'a>(s: &'a [u8], levels: usize) -> &'a [u8]
     ensures { IsFrontType s.now levels result.now }
 {
     let end = walk::ahead(s, 0, walk::skip_type(s, 0, levels));
-    &s[0..end]
+    &s[..end]
 }
 
 // "The surviving type is handed back as a part of whichever of the two sheets supplied it, where no nested merging is needed": of the
@@ -192,59 +117,10 @@ fn surviving<'a>(accumulated: &'a [u8], incoming: &'a [u8], levels: usize) -> &'
 fn put_raw(s: &[u8], own: usize, x: usize, levels: usize, dst: &mut [u8], pos: usize) -> usize
     ensures { PutsSurvivor s.now own x levels dst.old pos dst.new result }
 {
-    if s.len() < own {
+    let (Some(accumulated), Some(incoming)) = (s.get(own..), s.get(x..)) else {
         return pos;
-    }
-    if s.len() < x {
-        return pos;
-    }
-    buffer::put(dst, pos, surviving(&s[own..], &s[x..], levels))
-}
-
-// A union child, as it stands in the train: its id and its field.
-fn put_member(s: &[u8], at: usize, levels: usize, dst: &mut [u8], pos: usize) -> usize
-    ensures { (l : ℕ) (f : Field l) → l ≤ levels → Whole l f.data_type → Stands s.now at (member_bytes l f) → Puts (member_bytes l f) dst.old pos dst.new result }
-{
-    let field = walk::ahead(s, at, 1);
-    let end = walk::skip_field(s, field, levels);
-    walk::put_part(dst, pos, s, at, end)
-}
-
-// The union children of a row of places.
-fn put_members(s: &[u8], w: &[u8], at: usize, levels: usize, dst: &mut [u8], pos: usize) -> usize
-    ensures { PutsMembers s.now w.now at levels dst.old pos dst.new result }
-{
-    let mut place = at;
-    let mut next = pos;
-    while place < w.len() {
-        let member = table::three(w, place);
-        if member == table::NO_PLACE {
-            return next;
-        }
-        if buffer::MAX_ANSWER_BYTES < next {
-            return next;
-        }
-        next = put_member(s, member, levels, dst, next);
-        place += 3;
-    }
-    next
-}
-
-// What follows the code of a union: the mode, copied from a place of the train, the count and the children.
-fn put_union(
-    s: &[u8],
-    w: &[u8],
-    mode: usize,
-    at: usize,
-    levels: usize,
-    dst: &mut [u8],
-    pos: usize,
-) -> usize
-    ensures { PutsUnion s.now w.now mode at levels dst.old pos dst.new result }
-{
-    let count = put_copy(s, mode, dst, pos);
-    let first = buffer::put_two(dst, count, count_places(w, at));
-    put_members(s, w, at, levels, dst, first)
+    };
+    buffer::put(dst, pos, surviving(accumulated, incoming, levels))
 }
 
 // Whether a row of entries has any.
@@ -274,97 +150,159 @@ fn count_entries(w: &[u8], at: usize, levels: usize) -> usize
     count
 }
 
-// A field: the head of its entry and its type.
-#[cycle(putting)]
-fn put_entry(s: &[u8], w: &[u8], at: usize, levels: usize, dst: &mut [u8], pos: usize) -> usize
-    ensures { PutsEntry s.now w.now at levels dst.old pos dst.new result }
-{
-    let next = put_head(s, w, at, dst, pos);
-    let first = table::three(w, walk::ahead(w, at, 1));
-    put_type(
-        s,
-        w,
-        table::skip_head(w, at),
-        walk::skip_head(s, first),
-        levels,
-        dst,
-        next,
-    )
+// What is written: the schema that a table spells by places of a train.
+#[derive(Clone, Copy)]
+struct Spelling<'a> {
+    train: &'a [u8],
+    table: &'a [u8],
 }
 
-// A type: as it stands in the train, or its code and what was merged inside.
-#[cycle(putting)]
-fn put_type(
-    s: &[u8],
-    w: &[u8],
-    at: usize,
-    own: usize,
-    levels: usize,
-    dst: &mut [u8],
-    pos: usize,
-) -> usize
-    ensures { PutsType s.now w.now at own levels dst.old pos dst.new result }
-{
-    if levels <= 0 {
-        return pos;
-    }
-    let kind = walk::byte(w, at);
-    let x = table::three(w, walk::ahead(w, at, 1));
-    if kind == RAW {
-        return put_raw(s, own, x, levels, dst, pos);
-    }
-    let inner = walk::ahead(w, at, 4);
-    let next = put_copy(s, x, dst, pos);
-    if kind == OPEN_STRUCT {
-        return put_row(s, w, inner, levels - 1, dst, next);
-    }
-    if kind == OPEN_LIST {
-        return put_entry(s, w, inner, levels - 1, dst, next);
-    }
-    put_union(s, w, x + 1, inner, levels - 1, dst, next)
-}
-
-// The count of a row's entries, and their fields.
-#[cycle(putting)]
-fn put_row(s: &[u8], w: &[u8], at: usize, levels: usize, dst: &mut [u8], pos: usize) -> usize
-    ensures { PutsRow s.now w.now at levels dst.old pos dst.new result }
-{
-    let first = buffer::put_two(dst, pos, count_entries(w, at, levels));
-    put_entries(s, w, at, levels, dst, first)
-}
-
-// The fields of a row. What passes the longest answer is not gone over.
-#[cycle(putting)]
-fn put_entries(s: &[u8], w: &[u8], at: usize, levels: usize, dst: &mut [u8], pos: usize) -> usize
-    ensures { PutsEntries s.now w.now at levels dst.old pos dst.new result }
-{
-    let mut place = at;
-    let mut next = pos;
-    while place < w.len() {
-        if walk::byte(w, place) == table::NO_ENTRY {
-            return next;
+impl Spelling<'_> {
+    // The count of a row of places, and what stands at each of them in the train, up to where `skip` goes. What passes the longest answer is
+    // not gone over.
+    fn put_places<F: Fn(usize) -> usize>(
+        &self,
+        at: usize,
+        dst: &mut [u8],
+        pos: usize,
+        skip: F,
+    ) -> usize
+        requires { F.IsAlwaysCallable skip }
+        ensures { PutsPlaces (F.post skip) self.now.train.now self.now.table.now at dst.old pos dst.new result }
+    {
+        let row = PlaceRow::new(self.table, at);
+        let mut next = buffer::put_two(dst, pos, row.count());
+        for place in row {
+            if buffer::MAX_ANSWER_BYTES < next {
+                return next;
+            }
+            next = walk::put_part(dst, next, self.train, place, skip(place));
         }
-        if buffer::MAX_ANSWER_BYTES < next {
-            return next;
-        }
-        next = put_entry(s, w, place, levels, dst, next);
-        let behind = table::skip_entry(w, place, levels);
-        if behind <= place {
-            return next;
-        }
-        place = behind;
+        next
     }
-    next
-}
 
-// The columns of a sheet: nothing, or the count and the fields.
-fn put_columns(s: &[u8], w: &[u8], at: usize, dst: &mut [u8], pos: usize) -> usize
-    ensures { PutsColumns s.now w.now at dst.old pos dst.new result }
-{
-    if has_entries(w, at) {
-        return put_row(s, w, at, Cursor::LEVELS, dst, pos);
+    // Metadata: nothing, or the count and the pairs.
+    fn put_metadata(&self, at: usize, dst: &mut [u8], pos: usize) -> usize
+        ensures { PutsMetadata self.now.train.now self.now.table.now at dst.old pos dst.new result }
+    {
+        if has_places(self.table, at) {
+            return self.put_places(at, dst, pos, |pair| skip_pair(self.train, pair));
+        }
+        pos
     }
-    pos
+
+    // The head of an entry.
+    fn put_head(&self, at: usize, dst: &mut [u8], pos: usize) -> usize
+        ensures { PutsHead self.now.train.now self.now.table.now at dst.old pos dst.new result }
+    {
+        let flags = walk::byte(self.table, at);
+        let first = table::three(self.table, walk::ahead(self.table, at, 1));
+        if flags / 4 == 1 {
+            let pairs = walk::ahead(self.table, at, 4);
+            let next = put_name(
+                self.train,
+                first,
+                flags,
+                has_places(self.table, pairs),
+                dst,
+                pos,
+            );
+            let end = self.put_metadata(pairs, dst, next);
+            return put_dict_id(self.train, first, dst, end);
+        }
+        put_raw_head(self.train, first, flags, dst, pos)
+    }
+
+    // What follows the code of a union: the mode, copied from a place of the train, the count and the children.
+    fn put_union(&self, mode: usize, at: usize, levels: usize, dst: &mut [u8], pos: usize) -> usize
+        ensures { PutsUnion self.now.train.now self.now.table.now mode at levels dst.old pos dst.new result }
+    {
+        let count = put_copy(self.train, mode, dst, pos);
+        self.put_places(at, dst, count, |member| {
+            skip_member(self.train, member, levels)
+        })
+    }
+
+    // A field: the head of its entry and its type.
+    #[cycle(putting)]
+    fn put_entry(&self, at: usize, levels: usize, dst: &mut [u8], pos: usize) -> usize
+        ensures { PutsEntry self.now.train.now self.now.table.now at levels dst.old pos dst.new result }
+    {
+        let next = self.put_head(at, dst, pos);
+        let first = table::three(self.table, walk::ahead(self.table, at, 1));
+        let own = walk::skip_head(self.train, first);
+        self.put_type(table::skip_head(self.table, at), own, levels, dst, next)
+    }
+
+    // A type: as it stands in the train, or its code and what was merged inside.
+    #[cycle(putting)]
+    fn put_type(&self, at: usize, own: usize, levels: usize, dst: &mut [u8], pos: usize) -> usize
+        ensures { PutsType self.now.train.now self.now.table.now at own levels dst.old pos dst.new result }
+    {
+        if levels == 0 {
+            return pos;
+        }
+        let x = table::three(self.table, walk::ahead(self.table, at, 1));
+        let inner = walk::ahead(self.table, at, 4);
+        match table::kind_at(self.table, at) {
+            Kind::Raw => put_raw(self.train, own, x, levels, dst, pos),
+            Kind::OpenStruct => {
+                let next = put_copy(self.train, x, dst, pos);
+                self.put_row(inner, levels - 1, dst, next)
+            }
+            Kind::OpenList => {
+                let next = put_copy(self.train, x, dst, pos);
+                self.put_entry(inner, levels - 1, dst, next)
+            }
+            Kind::OpenUnion => {
+                let next = put_copy(self.train, x, dst, pos);
+                self.put_union(x + 1, inner, levels - 1, dst, next)
+            }
+        }
+    }
+
+    // The count of a row's entries, and their fields.
+    #[cycle(putting)]
+    fn put_row(&self, at: usize, levels: usize, dst: &mut [u8], pos: usize) -> usize
+        ensures { PutsRow self.now.train.now self.now.table.now at levels dst.old pos dst.new result }
+    {
+        let first = buffer::put_two(dst, pos, count_entries(self.table, at, levels));
+        self.put_entries(at, levels, dst, first)
+    }
+
+    // The fields of a row. What passes the longest answer is not gone over.
+    #[cycle(putting)]
+    fn put_entries(&self, at: usize, levels: usize, dst: &mut [u8], pos: usize) -> usize
+        ensures { PutsEntries self.now.train.now self.now.table.now at levels dst.old pos dst.new result }
+    {
+        let mut place = at;
+        let mut next = pos;
+        while place < self.table.len() {
+            if walk::byte(self.table, place) == table::NO_ENTRY {
+                return next;
+            }
+            if buffer::MAX_ANSWER_BYTES < next {
+                return next;
+            }
+            next = self.put_entry(place, levels, dst, next);
+            let behind = table::skip_entry(self.table, place, levels);
+            if behind <= place {
+                return next;
+            }
+            place = behind;
+        }
+        next
+    }
+
+    // The columns of a sheet: nothing, or the count and the fields.
+    fn put_columns(&self, at: usize, dst: &mut [u8], pos: usize) -> usize
+        ensures { PutsColumns self.now.train.now self.now.table.now at dst.old pos dst.new result }
+    {
+        if has_entries(self.table, at) {
+            return self.put_row(at, Cursor::LEVELS, dst, pos);
+        }
+        pos
+    }
 }
 
 // The sheet of the schema that the table w spells, from the train s. It gives the length, also in a buffer that is too short.
@@ -372,8 +310,9 @@ pub fn emit(s: &[u8], w: &[u8], dst: &mut [u8]) -> usize
     ensures { (x : Schema) (k : ℕ) (y : Bytes) → SpellSchema s.now k y x → Stands w.now 0 y → Puts (sheet_bytes x) dst.old 0 dst.new result }
 {
     let columns = table::skip_places(w, 0);
-    let map = flag(1, has_places(w, 0)) + flag(2, has_entries(w, columns));
+    let map = usize::from(has_places(w, 0)) + usize::from(has_entries(w, columns)) * 2;
     let metadata = buffer::put_one(dst, 0, map as u8);
-    let next = put_metadata(s, w, 0, dst, metadata);
-    put_columns(s, w, columns, dst, next)
+    let spelling = Spelling { train: s, table: w };
+    let next = spelling.put_metadata(0, dst, metadata);
+    spelling.put_columns(columns, dst, next)
 }

@@ -4,18 +4,22 @@
 #![tactic(auto)]
 
 ghost use Rattle.std.specs.Prelude.{◌≡◌, [], true, false};
+ghost use Rattle.model.specs.Bytes.{Bytes};
 ghost use Rattle.model.specs.Call.{try_new_call, try_from_fields_call, is_nested_call, equal_call, equals_datatype_call, contains_call, merge_call, mode_of, index_of_call, flattened_fields_call, project_call, normalize_call, filter_call};
+ghost use Rattle.buffer.specs.Leaves.{leaves};
 ghost use Rattle.exports.specs.Told.{told};
 
-use buffer::Outcome;
+use buffer::{Outcome, Refusal};
 
 // The number of the Rust's mode.
 const AS_THE_RUST: u8 = 0;
 
-// Writes place and length, and gives the number.
-fn tell(outcome: Outcome, place: &mut usize, length: &mut usize) -> u8
-    ensures { (result ≡ outcome.number) × (place.new ≡ outcome.place) × (length.new ≡ outcome.length) }
+// Writes place and length, and gives the number: what the export leaves is then what the call of its crate leaves.
+#[tactic(auto, unfolding(crate::specs::Told::told, buffer::specs::Leaves::leaves))]
+fn tell(answered: Result<usize, Refusal>, place: &mut usize, length: &mut usize) -> u8
+    ensures { (answer work : Bytes) → told result place.new length.new answer work ≡ leaves answered answer work }
 {
+    let outcome = Outcome::from(answered);
     *place = outcome.place;
     *length = outcome.length;
     outcome.number
@@ -32,8 +36,8 @@ pub extern "C" fn sheets_try_new(
 ) -> u8
     ensures { told result place.new length.new answer.new [] ≡ try_new_call ids.now count answer.old }
 {
-    let outcome = unions::try_new(ids, count, answer);
-    tell(outcome, place, length)
+    let answered = unions::try_new(ids, count, answer);
+    tell(answered, place, length)
 }
 
 #[unsafe(no_mangle)]
@@ -45,8 +49,8 @@ pub extern "C" fn sheets_try_from_fields(
 ) -> u8
     ensures { told result place.new length.new answer.new [] ≡ try_from_fields_call count answer.old }
 {
-    let outcome = unions::try_from_fields(count, answer);
-    tell(outcome, place, length)
+    let answered = unions::try_from_fields(count, answer);
+    tell(answered, place, length)
 }
 
 // Module 2: types.
@@ -60,8 +64,8 @@ pub extern "C" fn sheets_is_nested(
 ) -> u8
     ensures { told result place.new length.new answer.new work.new ≡ is_nested_call sheet.now work.old answer.old }
 {
-    let outcome = datatype::is_nested(sheet, work, answer);
-    tell(outcome, place, length)
+    let answered = datatype::is_nested(sheet, work, answer);
+    tell(answered, place, length)
 }
 
 #[unsafe(no_mangle)]
@@ -75,8 +79,8 @@ pub extern "C" fn sheets_equal(
 ) -> u8
     ensures { told result place.new length.new answer.new work.new ≡ equal_call sheet.now other.now work.old answer.old }
 {
-    let outcome = datatype::equal(sheet, other, work, answer);
-    tell(outcome, place, length)
+    let answered = datatype::equal(sheet, other, work, answer);
+    tell(answered, place, length)
 }
 
 #[unsafe(no_mangle)]
@@ -90,8 +94,8 @@ pub extern "C" fn sheets_equals_datatype(
 ) -> u8
     ensures { told result place.new length.new answer.new work.new ≡ equals_datatype_call sheet.now other.now work.old answer.old }
 {
-    let outcome = datatype::equals_datatype(sheet, other, work, answer);
-    tell(outcome, place, length)
+    let answered = datatype::equals_datatype(sheet, other, work, answer);
+    tell(answered, place, length)
 }
 
 #[unsafe(no_mangle)]
@@ -105,12 +109,13 @@ pub extern "C" fn sheets_contains(
 ) -> u8
     ensures { told result place.new length.new answer.new work.new ≡ contains_call sheet.now other.now work.old answer.old }
 {
-    let outcome = datatype::contains(sheet, other, work, answer);
-    tell(outcome, place, length)
+    let answered = datatype::contains(sheet, other, work, answer);
+    tell(answered, place, length)
 }
 
 // Modules 4 and 5: the merge of a train, in the mode that a number asks for (document 02, Item 6): 0 is the Rust's, any other is parked log
 // first.
+#[tactic(auto, unfolding(model::specs::Call::mode_of))]
 #[unsafe(no_mangle)]
 pub extern "C" fn sheets_merge(
     train: &[u8],
@@ -122,8 +127,8 @@ pub extern "C" fn sheets_merge(
 ) -> u8
     ensures { told result place.new length.new answer.new work.new ≡ merge_call (mode_of mode) train.now work.old answer.old }
 {
-    let outcome = try_merge::merge(train, work, answer, mode != AS_THE_RUST);
-    tell(outcome, place, length)
+    let answered = try_merge::merge(train, work, answer, mode != AS_THE_RUST);
+    tell(answered, place, length)
 }
 
 // Module 5: schemas.
@@ -138,8 +143,8 @@ pub extern "C" fn sheets_index_of(
 ) -> u8
     ensures { told result place.new length.new answer.new work.new ≡ index_of_call sheet.now name.now work.old answer.old }
 {
-    let outcome = schema::index_of(sheet, name, work, answer);
-    tell(outcome, place, length)
+    let answered = schema::index_of(sheet, name, work, answer);
+    tell(answered, place, length)
 }
 
 #[unsafe(no_mangle)]
@@ -152,8 +157,8 @@ pub extern "C" fn sheets_flattened_fields(
 ) -> u8
     ensures { told result place.new length.new answer.new work.new ≡ flattened_fields_call sheet.now work.old answer.old }
 {
-    let outcome = schema::flattened_fields(sheet, work, answer);
-    tell(outcome, place, length)
+    let answered = schema::flattened_fields(sheet, work, answer);
+    tell(answered, place, length)
 }
 
 #[unsafe(no_mangle)]
@@ -167,8 +172,8 @@ pub extern "C" fn sheets_project(
 ) -> u8
     ensures { told result place.new length.new answer.new work.new ≡ project_call false sheet.now list.now work.old answer.old }
 {
-    let outcome = project::project(sheet, list, work, answer);
-    tell(outcome, place, length)
+    let answered = project::project(sheet, list, work, answer);
+    tell(answered, place, length)
 }
 
 #[unsafe(no_mangle)]
@@ -182,8 +187,8 @@ pub extern "C" fn sheets_project_strict(
 ) -> u8
     ensures { told result place.new length.new answer.new work.new ≡ project_call true sheet.now list.now work.old answer.old }
 {
-    let outcome = project::project_strict(sheet, list, work, answer);
-    tell(outcome, place, length)
+    let answered = project::project_strict(sheet, list, work, answer);
+    tell(answered, place, length)
 }
 
 #[unsafe(no_mangle)]
@@ -198,8 +203,8 @@ pub extern "C" fn sheets_normalize(
 ) -> u8
     ensures { told result place.new length.new answer.new work.new ≡ normalize_call sheet.now separator.now max_level work.old answer.old }
 {
-    let outcome = normalize::normalize(sheet, separator, max_level, work, answer);
-    tell(outcome, place, length)
+    let answered = normalize::normalize(sheet, separator, max_level, work, answer);
+    tell(answered, place, length)
 }
 
 // Module 6: the leaf filter.
@@ -214,6 +219,6 @@ pub extern "C" fn sheets_filter(
 ) -> u8
     ensures { told result place.new length.new answer.new work.new ≡ filter_call sheet.now mask.now work.old answer.old }
 {
-    let outcome = filter::filter(sheet, mask, work, answer);
-    tell(outcome, place, length)
+    let answered = filter::filter(sheet, mask, work, answer);
+    tell(answered, place, length)
 }

@@ -15,13 +15,14 @@ use Rattle.model.specs.WellFormed.{Whole}
 use Rattle.model.specs.Merge.{need}
 use Rattle.model.specs.Equal.{same_child, same_type}
 use Rattle.model.proofs.Whole.{leaf_empty, type_whole}
+use Rattle.buffer.specs.declared.refusal.Number.{Number}
 use Rattle.walk.specs.Stands.{Stands}
 use Rattle.walk.proofs.Parts.{Ahead}
 use Rattle.walk.proofs.Descents.{code_stands}
 use Rattle.table.specs.Held.{Held}
 use Rattle.table.specs.Table.{raw, u24, three, RawAt, spell_raw, spell_struct, spell_list, spell_union}
 use Rattle.table.specs.Becomes.{IncomingType, Coded}
-use Rattle.table.specs.declared.Merged.TheVariants.{Used, Clash}
+use Rattle.std.proofs.Common.{Ok, Err}
 use Rattle.table.proofs.Held.{held_stands}
 use Rattle.table.proofs.Types.{raw_there}
 use Rattle.field.specs.Claims.{MergesEqual}
@@ -44,7 +45,7 @@ as_raw l first d n₁ n₂ n₃ (spell_list x j ys y bs q g z p r v k, f) = absu
 as_raw l first d n₁ n₂ n₃ (spell_union x j ys bs q g z p r v k, f) = absurd (n₂ (sym f ∙ z))
 
 -- of plain types of one code
-pub types_plain : {s w : Bytes} {used place t levels c : ℕ} → c ≡ get_or s t 0 → layout c ≡ leaf → MergesEqual levels s w used place t w (Used used)
+pub types_plain : {s w : Bytes} {used place t levels c : ℕ} → c ≡ get_or s t 0 → layout c ≡ leaf → MergesEqual levels s w used place t w (Ok used)
 unfolding need same
 types_plain {s} {t = t} {c = c} e h = record {
   says = λ l first u code low n₁ n₂ n₃ f i x y z k d held hx p room.
@@ -74,7 +75,7 @@ module _ {s w : Bytes} {used place m own t levels : ℕ} {b : Bool} (a : Ahead w
       c (suc l) d u h (type_whole (suc l) r.ordered d r.well_formed) (type_whole (suc l) i.ordered u i.well_formed)
       (subst (λ p. Stands s p (type_bytes (suc l) d)) (sym there) r.stands) i.stands ∙ same_rest l d u (p.1 ∙ sym e)
 
-  pub types_equal : b ≡ true → MergesEqual levels s w used place t w (Used used)
+  pub types_equal : b ≡ true → MergesEqual levels s w used place t w (Ok used)
   unfolding need
   types_equal e = record {
     says = λ l first u code h n₁ n₂ n₃ f i x y z k d held hx p room. record {
@@ -88,6 +89,6 @@ module _ {s w : Bytes} {used place m own t levels : ℕ} {b : Bool} (a : Ahead w
     };
   }
 
-  pub types_differ : b ≡ false → MergesEqual levels s w used place t w (Clash type_clash)
+  pub types_differ : b ≡ false → MergesEqual levels s w used place t w (Err Number.TypeClash)
   unfolding need
   types_differ e = record { says = λ l first u code h n₁ n₂ n₃ f i x y z k d held hx p room. ap (λ v. need v type_clash d) (sym (verdict l first u d h n₁ n₂ n₃ f i held hx p) ∙ e) }

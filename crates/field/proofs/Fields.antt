@@ -12,14 +12,14 @@ use Rattle.model.specs.Sheet.{front_bytes, dict_id_bytes, part, with_count, pair
 use Rattle.model.specs.Merge as model
 use Rattle.model.specs.Merge.{◌>>=◌, done, clash, need, merge_metadata, orders_agree, merge_field, merge_type, is_null}
 use Rattle.model.proofs.Modes.{merged_order_lem}
+use Rattle.buffer.specs.declared.refusal.Number.{Number}
 use Rattle.walk.specs.Stands.{Stands, Skips}
 use Rattle.walk.proofs.Descents.{head_stands, type_stands}
 use Rattle.table.specs.Held.{Held}
 use Rattle.table.specs.Table.{u24, SpellField, SpellType}
-use Rattle.table.specs.Says.{Says}
+use Rattle.table.specs.Says.{Merged, Says}
 use Rattle.table.specs.Becomes.{Incoming}
-use Rattle.table.specs.declared.Merged.{Merged}
-use Rattle.table.specs.declared.Merged.TheVariants.{Used, Clash}
+use Rattle.std.proofs.Common.{Ok, Err}
 use Rattle.table.proofs.Held.{held_stands, held_as}
 use Rattle.table.proofs.Says.{says_in, says_as}
 use Rattle.table.proofs.Fits.{metadata_fits}
@@ -108,7 +108,7 @@ module _ (parked : Bool) where
         → b ≡ orders_agree parked (is_null l) f g
     agree l g sq {k} {y = y} {f = f} held hx e = o.says l k y f g e (held_stands held hx) sq
 
-    pub field_ordered : {levels : ℕ} → b ≡ false → MergesField parked levels s w used place q w (Clash ordered_clash)
+    pub field_ordered : {levels : ℕ} → b ≡ false → MergesField parked levels s w used place q w (Err Number.OrderedClash)
     field_ordered n = record { says = λ l g low v x y z k f held hx e room. field_clash l f g (sym (agree l g v.stands held hx e) ∙ n) }
 
     module _ (same : b ≡ true) {w₁ : Bytes} {got : Merged} (mm : MergesMetadata s w used place q w₁ got) where
@@ -123,7 +123,7 @@ module _ (parked : Bool) where
       ordered_parts l g v {f = f} held hx e =
           field_parts l f g (sym (agree l g v.stands held hx e) ∙ same)
 
-      pub field_stopped : {levels n : ℕ} → got ≡ Clash n → MergesField parked levels s w used place q w₁ got
+      pub field_stopped : {levels : ℕ} {n : Number} → got ≡ Err n → MergesField parked levels s w used place q w₁ got
       unfolding ◌>>=◌
       field_stopped {n = n} c = record {
         says = λ l g low v x y z k f held hx e room.
@@ -132,7 +132,7 @@ module _ (parked : Bool) where
             (ordered_parts l g v held hx e ∙ ap (λ m. m >>= λ h. merge_rest parked l h g) t);
       }
 
-      pub field_merged : {levels kept : ℕ} {w₂ : Bytes} {r : Merged} → got ≡ Used kept → MergesRest parked levels s w₁ kept place q w₂ r → MergesField parked levels s w used place q w₂ r
+      pub field_merged : {levels kept : ℕ} {w₂ : Bytes} {r : Merged} → got ≡ Ok kept → MergesRest parked levels s w₁ kept place q w₂ r → MergesField parked levels s w used place q w₂ r
       unfolding ◌>>=◌
       field_merged {kept = kept} {w₂} {r} c rest = record {
         says = λ l g low v x y z k f held hx e room.

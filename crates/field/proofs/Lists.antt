@@ -16,9 +16,8 @@ use Rattle.walk.proofs.Standing.{stands_behind, skip_ahead}
 use Rattle.walk.proofs.Parts.{Ahead}
 use Rattle.table.specs.Held.{Held}
 use Rattle.table.specs.Table.{open_list, u24, SpellField, SpellType, spell_list}
-use Rattle.table.specs.Says.{Says}
+use Rattle.table.specs.Says.{Merged, Says}
 use Rattle.table.specs.Opened.{OpensList}
-use Rattle.table.specs.declared.Merged.{Merged}
 use Rattle.table.proofs.Numbers.{length_u24}
 use Rattle.table.proofs.Held.{held_length, held_as}
 use Rattle.table.proofs.Says.{says_in}

@@ -1,63 +1,43 @@
 -- Whether two order flags let their fields be merged.
 use Prim.Native.Nat.{ℕ, zero, suc, ◌/◌, ◌%◌}
-use native.Mathlib.Omega.{arith}
-use mathlib.Core.Path.{◌≡◌, refl, sym, ap, ◌∙◌}
+use mathlib.Core.Path.{◌≡◌, sym, ap, ◌∙◌}
 use mathlib.Core.Bool.{Bool, true, false, ◌||◌, beq}
 use lib.ListN.{get_or}
 use lib.Dec.{eqb}
 use borrow.Author.Tests.{eq-eqb, ne_eqb}
-use Rattle.model.specs.Bytes.{Bytes, flag}
+use Rattle.model.specs.Bytes.{Bytes, bit}
 use Rattle.model.specs.Tree.{Head, DataType, Field}
 use Rattle.model.specs.Sheet.{head_bytes, field_bytes, type_bytes}
 use Rattle.model.specs.Merge.{orders_agree, is_null}
+use Rattle.model.proofs.MapBits.{is_one}
 use Rattle.walk.specs.Stands.{Stands, Skips}
 use Rattle.walk.proofs.Descents.{type_stands, code_stands}
 use Rattle.table.specs.Table.{SpellField, SpellType}
 use Rattle.table.proofs.NewEntries.{order_bit}
 use Rattle.metadata.proofs.Entries.{flags_is}
 use Rattle.field.specs.Claims.{HasNull, OrdersAgree}
-use Rattle.field.proofs.Flags.{is_bit, SkipsHead, behind_head, type_there}
+use Rattle.field.proofs.Flags.{SkipsHead, behind_head, type_there}
 
-flags_equal : (a b : Bool) → flag 1 a ≡ flag 1 b → beq a b ≡ true
-flags_equal true true e = refl
-flags_equal true false e = absurd (omega (arith, e))
-flags_equal false true e = absurd (omega (arith, e))
-flags_equal false false e = refl
+-- what the code's test of the two bits says of the two fields
+module _ {s w : Bytes} {place q flags map : ℕ} {x y : Bool} (i : flags ≡ get_or w place 0) (j : map ≡ get_or s q 0) (m : x ≡ bit 1 flags) (n : y ≡ bit 1 map) where
+  same_bits : (l k : ℕ) (v : Bytes) (f g : Field l) → SpellField l s k v f → Stands w place v → Stands s q (field_bytes (type_bytes l) g)
+      → beq x y ≡ beq f.head.dict_is_ordered g.head.dict_is_ordered
+  unfolding bit
+  same_bits l k v f g e st sq =
+      rw (m ∙ ap (λ n. eqb (n / 2 % 2) 1) (flags_is l e st i) ∙ e.dict_is_ordered, n ∙ is_one (map / 2 % 2) g.head.dict_is_ordered (order_bit l g j sq))
 
-flags_differ : (a b : Bool) → (flag 1 a ≡ flag 1 b → ⊥) → beq a b ≡ false
-flags_differ true true e = absurd (e refl)
-flags_differ true false e = refl
-flags_differ false true e = refl
-flags_differ false false e = absurd (e refl)
-
-module _ {s w : Bytes} {place q flags map : ℕ} (i : flags ≡ get_or w place 0) (j : map ≡ get_or s q 0) where
-  bits : (l k : ℕ) (y : Bytes) (f g : Field l) → SpellField l s k y f → Stands w place y → Stands s q (field_bytes (type_bytes l) g)
-      → (flags / 2 % 2 ≡ flag 1 f.head.dict_is_ordered) × (map / 2 % 2 ≡ flag 1 g.head.dict_is_ordered)
-  bits l k y f g e st sq =
-      (is_bit (flags / 2 % 2) f.head.dict_is_ordered (omega arith) (ap (λ n. eqb (n / 2 % 2) 1) (flags_is l e st i) ∙ e.dict_is_ordered), order_bit l g j sq)
-
-  pub agree_same : {parked : Bool} → flags / 2 % 2 ≡ map / 2 % 2 → OrdersAgree parked s w place q true
+  pub agree_same : {parked : Bool} → beq x y ≡ true → OrdersAgree parked s w place q (beq x y)
   unfolding orders_agree
-  agree_same h = record {
-    says = λ l k y f g e st sq.
-        let (p, r) = bits l k y f g e st sq in
-        rw (flags_equal f.head.dict_is_ordered g.head.dict_is_ordered (sym p ∙ h ∙ r));
-  }
+  agree_same h = record { says = λ l k v f g e st sq. rw (sym (same_bits l k v f g e st sq) ∙ h, h) }
 
-  module _ (d : flags / 2 % 2 ≡ map / 2 % 2 → ⊥) where
-    differ : (l k : ℕ) (y : Bytes) (f g : Field l) → SpellField l s k y f → Stands w place y → Stands s q (field_bytes (type_bytes l) g)
-        → beq f.head.dict_is_ordered g.head.dict_is_ordered ≡ false
-    differ l k y f g e st sq =
-        let (p, r) = bits l k y f g e st sq in
-        flags_differ f.head.dict_is_ordered g.head.dict_is_ordered λ z. d (p ∙ z ∙ sym r)
-
+  module _ (h : beq x y ≡ false) where
     pub agree_null : {parked r : Bool} → parked ≡ true → HasNull s w place q r → OrdersAgree parked s w place q r
     unfolding orders_agree
-    agree_null h n = record { says = λ l k y f g e st sq. rw (differ l k y f g e st sq, h) (n.says l k y f g e st sq) }
+    agree_null p n = record { says = λ l k v f g e st sq. rw (sym (same_bits l k v f g e st sq) ∙ h, p) (n.says l k v f g e st sq) }
 
-    pub agree_not : {parked : Bool} → parked ≡ false → OrdersAgree parked s w place q false
+    pub agree_not : {parked : Bool} → parked ≡ false → OrdersAgree parked s w place q parked
     unfolding orders_agree
-    agree_not h = record { says = λ l k y f g e st sq. rw (differ l k y f g e st sq, h) }
+    agree_not p = record { says = λ l k v f g e st sq. rw (p, sym (same_bits l k v f g e st sq) ∙ h) }
 
 -- Nulls
 

@@ -14,23 +14,30 @@ use Rattle.model.specs.Merge as model
 use Rattle.model.specs.Merge.{◌>>=◌, done, clash, need, merge_metadata, orders_agree, merge_field, merge_by_name, merge_type, is_null}
 use Rattle.model.proofs.ByteStrings.{same_bytes_eq, differ_same_bytes, same_bytes_differ}
 use Rattle.model.proofs.Gives.{Gives, value, of_done, any_gives, bind_gives}
+use Rattle.std.specs.Result.{IsErrAnd}
+use Rattle.std.proofs.lemmas.Result.{err_from_is_err_and}
+use Rattle.buffer.specs.declared.refusal.Number.{Number}
+use Rattle.field.specs.declared.Placed.{Placed}
 use Rattle.walk.specs.Stands.{Stands}
 use Rattle.walk.proofs.Descents.{head_stands}
 use Rattle.table.specs.Held.{Held}
 use Rattle.table.specs.Table.{no_entry, more, SpellField, SpellRow}
 use Rattle.table.specs.Look.{Cut, FoundAt, NotFound, Finds}
-use Rattle.table.specs.Says.{Says}
+use Rattle.table.specs.Says.{Merged, Says}
 use Rattle.table.specs.Becomes.{Incoming}
 use Rattle.table.specs.Opened.{NewEntry}
-use Rattle.table.specs.declared.Found.{Found}
-use Rattle.table.specs.declared.Merged.{Merged}
-use Rattle.table.specs.declared.Merged.TheVariants.{Used, Clash}
+use Rattle.std.proofs.Common.{Result, Ok, Err}
 use Rattle.table.proofs.Held.{held_length, held_stands, held_as}
 use Rattle.table.proofs.Entries.{SkipsEntries}
 use Rattle.table.proofs.Opening.{field_long}
 use Rattle.table.proofs.Look.{rows_append, rows_snoc, row_begin}
 use Rattle.table.proofs.Fits.{field_fits, rows_fit}
-use Rattle.field.specs.Claims.{MergesField, Puts, Hinted, by_name}
+use Rattle.field.specs.Claims.{MergesField, Puts, PutsField, Hinted, by_name}
+
+-- where there is no clash, the next place is that behind the entry
+abbrev pub Behind : (w : Bytes) (place levels next : ℕ) → Merged → Type 0
+Behind w place levels next (Ok u) = SkipsEntries w place levels next
+Behind w place levels next (Err c) = Unit {0}
 
 -- Names
 
@@ -86,17 +93,17 @@ module _ (parked : Bool) where
 
   -- Into the entry of its name
 
-  module _ {s w : Bytes} {used row hint q levels : ℕ} {found : Found}
+  module _ {s w : Bytes} {used row hint q levels : ℕ} {found : Result ℕ ℕ}
       (find : (l k : ℕ) (y : Bytes) (fs : List (Field l)) (g : Head) → l ≤ levels → SpellRow l s k y fs → Stands w row y → Stands s q (head_bytes g) → Cut l s row k y fs hint → Finds l s row k y fs g.name found) where
-    pub put_found : {place next : ℕ} {w₁ : Bytes} {r : Merged} → found ≡ Found.At place → length w₁ ≡ length w → MergesField parked levels s w used place q w₁ r → SkipsEntries w₁ place levels next
+    pub put_found : {place next : ℕ} {w₁ : Bytes} (r : Merged) → found ≡ Ok place → length w₁ ≡ length w → MergesField parked levels s w used place q w₁ r → Behind w₁ place levels next r
         → Puts parked levels s w used row hint q w₁ r next
     unfolding ◌>>=◌
-    put_found {place} {next} {w₁} {r} at_place same merge skips = record { says = go }
+    put_found {place} {next} {w₁} r at_place same merge skips = record { says = go }
       where
         go : (l : ℕ) (g : Field l) → l ≤ levels → Incoming l s q g → (x y z : Bytes) (k : ℕ) (fs : List (Field l)) → Held w used x y z → row ≡ length x → Hinted l s row hint k y fs
             → length x + (k + 4 * length (field_bytes (type_bytes l) g)) + length z ≤ length w → Says (Hinted l s row next) (k + 4 * length (field_bytes (type_bytes l) g)) x z w₁ r (by_name parked l fs g)
         go l g low i x y z k fs held hx (sp, cut) room =
-            out r (merge.says l g low i (x ++ fa.before_bytes) fa.this_bytes (tail ++ z) fa.this_room fa.this held₁ (omega (arith, fa.stands, hx, n)) fa.spelt
+            out r skips (merge.says l g low i (x ++ fa.before_bytes) fa.this_bytes (tail ++ z) fa.this_room fa.this held₁ (omega (arith, fa.stands, hx, n)) fa.spelt
             (omega (arith, room, n, length-append tail z, length-append fa.after_bytes (no_entry ∷ []), fa.room, rows_fit (λ k y f e. field_fits l e) fa.row_before, rows_fit (λ k y f e. field_fits l e) fa.row_after)))
           where
             fa : FoundAt l s row k y fs g.head.name place
@@ -117,10 +124,10 @@ module _ (parked : Bool) where
                 ∙ by_name_found l fa.before fa.this fa.after g
                 (others_before l fa.before fa.this fa.after g.head.name (subst (λ fs. Distinct (names fs)) fa.fields sp.distinct) (same_bytes_eq fa.this.head.name g.head.name fa.named)) fa.named
 
-            out : (r : Merged) → Says (SpellField l s) (fa.this_room + 4 * length (field_bytes (type_bytes l) g)) (x ++ fa.before_bytes) (tail ++ z) w₁ r (merge_field parked (merge_type parked l) (is_null l) fa.this g)
+            out : (r : Merged) → Behind w₁ place levels next r → Says (SpellField l s) (fa.this_room + 4 * length (field_bytes (type_bytes l) g)) (x ++ fa.before_bytes) (tail ++ z) w₁ r (merge_field parked (merge_type parked l) (is_null l) fa.this g)
                 → Says (Hinted l s row next) (k + 4 * length (field_bytes (type_bytes l) g)) x z w₁ r (by_name parked l fs g)
-            out (Clash c) t = model_is ∙ ap (λ m. m >>= λ h. done (fa.before ++ (h ∷ fa.after))) t
-            out (Used u) t =
+            out (Err c) skips t = model_is ∙ ap (λ m. m >>= λ h. done (fa.before ++ (h ∷ fa.after))) t
+            out (Ok u) skips t =
                 let kept = of_done (subst (Gives (λ h. h.head.name ≡ fa.this.head.name)) t.is (name_kept l fa.this g)) in
                 let st = held_stands t.held {p = place} (omega (arith, fa.stands, hx, n)) in
                 let behind = (skips l s t.room t.spelt t.value low t.spells).behind st in
@@ -157,15 +164,22 @@ module _ (parked : Bool) where
                   held = held_as t.held (simp append_assoc);
                 }
 
+    -- a clash is handed up
+    pub put_clash : {place : ℕ} {w₁ : Bytes} {r : Merged} {c : Number} (a : Result Placed Number) → found ≡ Ok place → length w₁ ≡ length w → MergesField parked levels s w used place q w₁ r → r ≡ Err c
+        → IsErrAnd a (λ n. n ≡ c) → PutsField parked levels s w used row hint q w₁ a
+    put_clash {w₁ = w₁} {c = c} a at_place same merge e up =
+        let (n, i, j) = err_from_is_err_and a up in
+        subst (PutsField parked levels s w used row hint q w₁) (sym (i ∙ ap Err j)) (put_found (Err c) at_place same (subst (MergesField parked levels s w used _ q w₁) e merge) tt)
+
     -- Behind them all
 
-    pub put_absent : {end u : ℕ} {w₁ : Bytes} → found ≡ Found.Absent end → length w₁ ≡ length w
+    pub put_absent : {end u : ℕ} {w₁ : Bytes} → found ≡ Err end → length w₁ ≡ length w
         → ((l : ℕ) (g : Field l) (x z : Bytes) → Incoming l s q g → Held w used x [] z → end ≡ length x → used + 8 ≤ length w → NewEntry l s g w₁ u x z)
-        → Puts parked levels s w used row hint q w₁ (Used u) row
+        → Puts parked levels s w used row hint q w₁ (Ok u) row
     put_absent {end} {u} {w₁} at_end_lem same insert = record { says = go }
       where
         go : (l : ℕ) (g : Field l) → l ≤ levels → Incoming l s q g → (x y z : Bytes) (k : ℕ) (fs : List (Field l)) → Held w used x y z → row ≡ length x → Hinted l s row hint k y fs
-            → length x + (k + 4 * length (field_bytes (type_bytes l) g)) + length z ≤ length w → Says (Hinted l s row row) (k + 4 * length (field_bytes (type_bytes l) g)) x z w₁ (Used u) (by_name parked l fs g)
+            → length x + (k + 4 * length (field_bytes (type_bytes l) g)) + length z ≤ length w → Says (Hinted l s row row) (k + 4 * length (field_bytes (type_bytes l) g)) x z w₁ (Ok u) (by_name parked l fs g)
         go l g low i x y z k fs held hx (sp, cut) room =
             let nf : NotFound l row y fs g.head.name end =
             subst (Finds l s row k y fs g.head.name) at_end_lem (find l k y fs g.head low sp (held_stands held hx) (head_stands l g i.stands) cut) in

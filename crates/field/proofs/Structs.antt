@@ -16,16 +16,16 @@ use Rattle.model.proofs.Gives.{pour_append}
 use Rattle.model.proofs.Grows.{distinct_apart, pour_distinct}
 use Rattle.model.specs.Growth.{names}
 use Rattle.model.proofs.WellFormed.{each_every}
+use Rattle.buffer.specs.declared.refusal.Number.{Number}
 use Rattle.walk.specs.Stands.{Stands}
 use Rattle.walk.proofs.Standing.{byte_stands, stands_behind, skip_ahead}
 use Rattle.walk.proofs.Parts.{Ahead, two_at}
-use Rattle.walk.proofs.Descents.{code_stands, count_stands}
+use Rattle.walk.proofs.Descents.{code_stands, count_stands, elements_stand}
 use Rattle.table.specs.Held.{Held}
 use Rattle.table.specs.Table.{raw, open_struct, no_entry, u24, three, none, SpellRow, SpellType, spell_raw, spell_struct, spell_list, spell_union}
-use Rattle.table.specs.Says.{Says}
+use Rattle.table.specs.Says.{Merged, Says}
 use Rattle.table.specs.Becomes.{IncomingFields, Coded}
-use Rattle.table.specs.declared.Merged.{Merged}
-use Rattle.table.specs.declared.Merged.TheVariants.{Used, Clash}
+use Rattle.std.proofs.Common.{Ok, Err}
 use Rattle.table.proofs.Numbers.{length_u24}
 use Rattle.table.proofs.Held.{held_length, held_stands, held_as}
 use Rattle.table.proofs.Says.{says_in}
@@ -50,7 +50,7 @@ struct_children l o a e (c, p, k) =
           (subst (λ n. WellFormedChildren (WellFormedType l) (layout n).children a.children) e k);
     }
 
-module _ (l : ℕ) {s : Bytes} {t m n q : ℕ} (a : DataType (suc l)) (c : Children l a) (b : Ahead s t 1 m) (d : n ≡ two_at s m) (f : Ahead s t 3 q) (st : Stands s t (type_bytes (suc l) a)) where
+module _ (l : ℕ) {s : Bytes} {t m n q : ℕ} (a : DataType (suc l)) (c : Children l a) (b : Ahead s t 1 m) (d : n ≡ two_at s m) (f : Ahead s m 2 q) (st : Stands s t (type_bytes (suc l) a)) where
   behind_code : Stands s m (with_count (field_bytes (type_bytes l)) a.children)
   behind_code = stands_behind (skip_ahead (a.code ∷ []) refl b.1) (subst (Stands s t) c.bytes st)
 
@@ -58,7 +58,7 @@ module _ (l : ℕ) {s : Bytes} {t m n q : ℕ} (a : DataType (suc l)) (c : Child
   unfolding with_count u16
   incoming small = record {
     small = small;
-    stands = stands_behind (skip_ahead (a.code ∷ u16 (length a.children)) refl f.1) (subst (Stands s t) c.bytes st);
+    stands = elements_stand (field_bytes (type_bytes l)) a.children f behind_code;
     counted = sym (d ∙ count_stands (field_bytes (type_bytes l)) a.children behind_code);
     well_formed = c.well_formed;
   }
@@ -90,16 +90,16 @@ struct_params l (spell_union x m ys b q g c p r v u, d) = absurd (omega (arith, 
 
 -- in either mode
 module _ (parked : Bool) where
-  module _ {s w : Bytes} {used place n : ℕ} (e : n ≡ get_or w place 0) where
+  module _ {s w : Bytes} {used place : ℕ} where
     -- it is open: its own children are poured already
-    pub struct_open : {levels : ℕ} → n ≡ open_struct → OpensStruct parked levels s w used place w (Used used)
+    pub struct_open : {levels : ℕ} → get_or w place 0 ≡ open_struct → OpensStruct parked levels s w used place w (Ok used)
     struct_open h = record {
       says = λ l first low small x y z k a held hx p room. go l first x y z k a held hx p;
     }
       where
         go : (l : ℕ) (first : DataType (suc l)) (x y z : Bytes) (k : ℕ) (a : DataType (suc l)) → Held w used x y z → place ≡ length x → Coded l s first Struct k y a
-            → Says (OpenStruct l s) (k + 0) x z w (Used used) (pour (by_name parked l) [] a.children)
-        go l first x y z k a held hx (spell_raw i b r v, d) = absurd (omega (arith, h, e, byte_stands (subst (Stands w place) b (held_stands held hx))))
+            → Says (OpenStruct l s) (k + 0) x z w (Ok used) (pour (by_name parked l) [] a.children)
+        go l first x y z k a held hx (spell_raw i b r v, d) = absurd (omega (arith, h, byte_stands (subst (Stands w place) b (held_stands held hx))))
         go l first x y z k a held hx (spell_struct i m ys b q g c p r v, d) = record {
           value = a.children;
           spelt = y;
@@ -116,9 +116,9 @@ module _ (parked : Bool) where
             list (inr i) j = omega (arith, i, j)
         go l first x y z k a held hx (spell_union i m ys b q g c p r v u, d) = absurd (omega (arith, c, d))
 
-  module _ {s w : Bytes} {used place n : ℕ} (e : n ≡ get_or w place 0) where
-    pub struct_poured : {w₁ w₂ : Bytes} {m own inner c count opened start levels : ℕ} {r : Merged} → (n ≡ open_struct → ⊥) → Ahead w place 1 m → own ≡ three w m → Ahead w place 4 inner → Ahead s own 1 c
-        → count ≡ two_at s c → length w₁ ≡ length w → OpensRow w used place w₁ opened → Ahead s own 3 start → Pours parked levels s w₁ opened inner start count w₂ r → OpensStruct parked levels s w used place w₂ r
+  module _ {s w : Bytes} {used place : ℕ} where
+    pub struct_poured : {w₁ w₂ : Bytes} {m own inner c count opened start levels : ℕ} {r : Merged} → (get_or w place 0 ≡ open_struct → ⊥) → Ahead w place 1 m → own ≡ three w m → Ahead w place 4 inner → Ahead s own 1 c
+        → count ≡ two_at s c → length w₁ ≡ length w → OpensRow w used place w₁ opened → Ahead s c 2 start → Pours parked levels s w₁ opened inner start count w₂ r → OpensStruct parked levels s w used place w₂ r
     struct_poured {w₁} {w₂} {m} {own} {inner} {c} {count} {opened} {start} {levels} {r} never a o f b d same opens g pours = record {
       says = λ l first low small x y z k t held hx p room. go l first low small x y z k t held hx p room;
     }
@@ -144,7 +144,7 @@ module _ (parked : Bool) where
             subst (λ v. Says (OpenStruct l s) (k + 0) x z w₂ r v) (done_same (pour (by_name parked l) [] t.children))
             (says_in (SpellRow l s) (OpenStruct l s) (1 + more) (k + 0) x head [] z w₂ (λ ks. ks) (pour (by_name parked l) [] t.children)
             (λ i v ks p h. (k + 0, around l j i v ks ra.small (code_stands l t ra.stands ∙ q) p (omega (arith, h, ra.room, long)), omega arith)) r says)
-        go l first low small x y z k t held hx (spell_struct i j ys bs q h u p v ro, d) room = absurd (never (e ∙ byte_stands (subst (Stands w place) bs (held_stands held hx))))
+        go l first low small x y z k t held hx (spell_struct i j ys bs q h u p v ro, d) room = absurd (never (byte_stands (subst (Stands w place) bs (held_stands held hx))))
         go l first low small x y z k t held hx (spell_list i j ys y' bs q h u p v ro k', d) room = absurd (list u d)
           where
             list : (t.code ≡ List') ⊎ (t.code ≡ LargeList) → t.code ≡ Struct → ⊥
@@ -155,7 +155,7 @@ module _ (parked : Bool) where
   -- The two together
 
   module _ {s w : Bytes} {used place t inner levels : ℕ} (a : Ahead w place 4 inner) {w₁ : Bytes} {got : Merged} (same : length w₁ ≡ length w) (own : OpensStruct parked levels s w used place w₁ got) where
-    pub struct_stopped : {n : ℕ} → got ≡ Clash n → MergesStruct parked levels s w used place t w₁ got
+    pub struct_stopped : {n : Number} → got ≡ Err n → MergesStruct parked levels s w used place t w₁ got
     unfolding ◌>>=◌
     struct_stopped {n} c = record {
       says = λ l first u low e i x y z k d held hx p room.
@@ -164,7 +164,7 @@ module _ (parked : Bool) where
           (ap (λ m. m >>= λ ks. done (with_children d ks)) (pour_append (by_name parked l) [] d.children u.children ∙ ap (λ m. m >>= λ b. pour (by_name parked l) b u.children) m));
     }
 
-    pub struct_merged : {mid c count start : ℕ} {w₂ : Bytes} {r : Merged} → got ≡ Used mid → Ahead s t 1 c → count ≡ two_at s c → Ahead s t 3 start → Pours parked levels s w₁ mid inner start count w₂ r
+    pub struct_merged : {mid c count start : ℕ} {w₂ : Bytes} {r : Merged} → got ≡ Ok mid → Ahead s t 1 c → count ≡ two_at s c → Ahead s c 2 start → Pours parked levels s w₁ mid inner start count w₂ r
         → MergesStruct parked levels s w used place t w₂ r
     unfolding ◌>>=◌
     struct_merged {mid} {c} {count} {start} {w₂} {r} g b d f pours = record {

@@ -3,11 +3,11 @@ use Prim.Native.Nat.{ℕ, zero, suc, ◌+◌, ◌*◌, ◌-◌, ◌≤◌}
 use native.Mathlib.Omega.{arith}
 use mathlib.Core.Path.{◌≡◌, refl, sym, ap, subst, ◌∙◌}
 use mathlib.Core.List.{[], ◌∷◌, ◌++◌}
-use mathlib.Core.Bool.{Bool, true, false, not, ◌||◌, ◌&&◌, false≢true}
+use mathlib.Core.Bool.{Bool, true, false, not, ◌||◌, ◌&&◌}
 use mathlib.Core.Logic.{◌⊎◌, inl, inr}
 use lib.ListN.{length, get_or}
 use lib.Dec.{eqb}
-use borrow.Author.Tests.{eq-eqb, ne_eqb, eqb-true, eqb-false}
+use borrow.Author.Tests.{eq-eqb, ne_eqb, eqb-false}
 use Rattle.model.specs.Numbers.{type_clash}
 use Rattle.model.specs.Bytes.{Bytes, same, same_bytes}
 use Rattle.model.specs.Tree.{DataType, with_children, Null, List', LargeList, Struct, Union}
@@ -15,14 +15,14 @@ use Rattle.model.specs.Sheet.{type_bytes}
 use Rattle.model.specs.Merge.{◌>>=◌, done, clash, need, merge_each, merge_same_code, merge_type, is_null, pour}
 use Rattle.model.specs.Equal.{same_child, same_type}
 use Rattle.model.proofs.Gives.{choose_true, choose_false}
+use Rattle.buffer.specs.declared.refusal.Number.{Number}
 use Rattle.walk.specs.Stands.{Stands}
 use Rattle.walk.proofs.Descents.{code_stands}
 use Rattle.table.specs.Held.{Held}
 use Rattle.table.specs.Table.{raw, u24, SpellType, spell_raw, spell_struct, spell_list, spell_union}
-use Rattle.table.specs.Says.{Says}
+use Rattle.table.specs.Says.{Merged, Says}
 use Rattle.table.specs.Becomes.{IncomingType}
-use Rattle.table.specs.declared.Merged.{Merged}
-use Rattle.table.specs.declared.Merged.TheVariants.{Used, Clash}
+use Rattle.std.proofs.Common.{Ok, Err}
 use Rattle.table.proofs.Numbers.{length_u24}
 use Rattle.table.proofs.Held.{held_stands}
 use Rattle.members.specs.Claims.{MergesUnion}
@@ -45,16 +45,8 @@ null_raw l (spell_list x m ys f b q g (inl d) p r v u) e = absurd (omega (arith,
 null_raw l (spell_list x m ys f b q g (inr d) p r v u) e = absurd (omega (arith, d, e))
 null_raw l (spell_union x m ys b q g d p r v u) e = absurd (omega (arith, d, e))
 
-is_list : (c : ℕ) → (eqb c List' || eqb c LargeList) ≡ true → (c ≡ List') ⊎ (c ≡ LargeList)
-is_list c h = go (eqb c List') refl h
-  where
-    go : (b : Bool) → eqb c List' ≡ b → (b || eqb c LargeList) ≡ true → (c ≡ List') ⊎ (c ≡ LargeList)
-    go true e h = inl (eqb-true c List' e)
-    go false e h = inr (eqb-true c LargeList h)
-
-no_list : (c : ℕ) → (eqb c List' || eqb c LargeList) ≡ false → (c ≡ List') ⊎ (c ≡ LargeList) → ⊥
-no_list c h (inl e) = false≢true (sym h ∙ ap (λ n. eqb n List' || eqb n LargeList) e)
-no_list c h (inr e) = false≢true (sym h ∙ ap (λ n. eqb n List' || eqb n LargeList) e)
+neither : (c : ℕ) → ((c ≡ List') ⊎ (c ≡ LargeList) → ⊥) → (eqb c List' || eqb c LargeList) ≡ false
+neither c n = rw (ne_eqb c List' (λ e. n (inl e)), ne_eqb c LargeList (λ e. n (inr e)))
 
 -- in either mode
 module _ (parked : Bool) where
@@ -87,11 +79,11 @@ module _ (parked : Bool) where
       theirs_is : theirs ≡ u.code
       theirs_is = j ∙ code_stands l u i.stands
 
-    pub type_taken : {levels : ℕ} {w₁ : Bytes} → mine ≡ 0 → ((x y z : Bytes) → Held w used x y z → place ≡ length x → length y ≡ 4 → Held w₁ used x (raw ∷ u24 t) z) → MergesType parked levels s w used place t w₁ (Used used)
+    pub type_taken : {levels : ℕ} {w₁ : Bytes} → mine ≡ 0 → ((x y z : Bytes) → Held w used x y z → place ≡ length x → length y ≡ 4 → Held w₁ used x (raw ∷ u24 t) z) → MergesType parked levels s w used place t w₁ (Ok used)
     type_taken {levels} {w₁} e f = record { says = go }
       where
         go : (l : ℕ) (first u : DataType l) → l ≤ levels → IncomingType l s t u → (x y z : Bytes) (k : ℕ) (a : DataType l) → Held w used x y z → place ≡ length x → SpellType l s first k y a
-            → length x + (k + 4 * length (type_bytes l u)) + length z ≤ length w → Says (SpellType l s first) (k + 4 * length (type_bytes l u)) x z w₁ (Used used) (merge_type parked l a u)
+            → length x + (k + 4 * length (type_bytes l u)) + length z ≤ length w → Says (SpellType l s first) (k + 4 * length (type_bytes l u)) x z w₁ (Ok used) (merge_type parked l a u)
         go zero first u low i x y z k a held hx p room = absurd a
         go (suc l) first u low i x y z k a held hx p room =
             let n : a.code ≡ Null = sym (mine_is l first u a i held hx p) ∙ e in
@@ -107,11 +99,11 @@ module _ (parked : Bool) where
             }
 
     module _ (m : mine ≡ 0 → ⊥) where
-      pub type_kept : {levels : ℕ} → theirs ≡ 0 → MergesType parked levels s w used place t w (Used used)
+      pub type_kept : {levels : ℕ} → theirs ≡ 0 → MergesType parked levels s w used place t w (Ok used)
       type_kept {levels} e = record { says = go }
         where
           go : (l : ℕ) (first u : DataType l) → l ≤ levels → IncomingType l s t u → (x y z : Bytes) (k : ℕ) (a : DataType l) → Held w used x y z → place ≡ length x → SpellType l s first k y a
-              → length x + (k + 4 * length (type_bytes l u)) + length z ≤ length w → Says (SpellType l s first) (k + 4 * length (type_bytes l u)) x z w (Used used) (merge_type parked l a u)
+              → length x + (k + 4 * length (type_bytes l u)) + length z ≤ length w → Says (SpellType l s first) (k + 4 * length (type_bytes l u)) x z w (Ok used) (merge_type parked l a u)
           go zero first u low i x y z k a held hx p room = absurd a
           go (suc l) first u low i x y z k a held hx p room = record {
             value = a;
@@ -124,7 +116,7 @@ module _ (parked : Bool) where
           }
 
       module _ (n : theirs ≡ 0 → ⊥) where
-        pub type_clash_lem : {levels : ℕ} → (mine ≡ theirs → ⊥) → MergesType parked levels s w used place t w (Clash type_clash)
+        pub type_clash_lem : {levels : ℕ} → (mine ≡ theirs → ⊥) → MergesType parked levels s w used place t w (Err Number.TypeClash)
         type_clash_lem {levels} d = record { says = go }
           where
             go : (l : ℕ) (first u : DataType l) → l ≤ levels → IncomingType l s t u → (x y z : Bytes) (k : ℕ) (a : DataType l) → Held w used x y z → place ≡ length x → SpellType l s first k y a
@@ -188,21 +180,19 @@ module _ (parked : Bool) where
             (m.says l first u (omega (arith, low)) (e ∙ c) i x y z k a held hx (p.0, p.1 ∙ c) room);
       }
 
-      pub same_list : {b : Bool} → b ≡ (eqb code List' || eqb code LargeList) → b ≡ true → MergesList parked (levels - 1) s w used place t w₁ r → MergesSameCode parked code levels s w used place t w₁ r
-      same_list b d m = record {
+      pub same_list : (code ≡ List') ⊎ (code ≡ LargeList) → MergesList parked (levels - 1) s w used place t w₁ r → MergesSameCode parked code levels s w used place t w₁ r
+      same_list h m = record {
         says = λ l first u low e i x y z k a held hx p room.
-            let h = is_list code (sym b ∙ d) in
             subst (λ v. Says (SpellType (suc l) s first) (k + 4 * length (type_bytes (suc l) u)) x z w₁ r v) (sym (list_arm l a u (subst (λ n. (n ≡ List') ⊎ (n ≡ LargeList)) (sym p.1) h)))
             (m.says l first u code (omega (arith, low)) h e i x y z k a held hx p room);
       }
 
-      pub same_other : {b : Bool} → b ≡ (eqb code List' || eqb code LargeList) → b ≡ false → (code ≡ Struct → ⊥) → (code ≡ Union → ⊥) → MergesEqual levels s w used place t w₁ r
-          → MergesSameCode parked code levels s w used place t w₁ r
-      same_other b d n₁ n₂ m = record {
+      pub same_other : (code ≡ Struct → ⊥) → (code ≡ Union → ⊥) → ((code ≡ List') ⊎ (code ≡ LargeList) → ⊥) → MergesEqual levels s w used place t w₁ r → MergesSameCode parked code levels s w used place t w₁ r
+      same_other n₁ n₂ n₃ m = record {
         says = λ l first u low e i x y z k a held hx p room.
             subst (λ v. Says (SpellType (suc l) s first) (k + 4 * length (type_bytes (suc l) u)) x z w₁ r v)
-            (sym (other_arm l a u (λ h. n₁ (sym p.1 ∙ h)) (λ h. n₂ (sym p.1 ∙ h)) (ap (λ c. eqb c List' || eqb c LargeList) p.1 ∙ sym b ∙ d)))
-            (m.says l first u code low n₁ n₂ (no_list code (sym b ∙ d)) e i x y z k a held hx p room);
+            (sym (other_arm l a u (λ h. n₁ (sym p.1 ∙ h)) (λ h. n₂ (sym p.1 ∙ h)) (ap (λ c. eqb c List' || eqb c LargeList) p.1 ∙ neither code n₃)))
+            (m.says l first u code low n₁ n₂ n₃ e i x y z k a held hx p room);
       }
 
     pub same_union : (w₁ : Bytes) (r : Merged) → code ≡ Union → MergesUnion (levels - 1) s w used place t w₁ r → MergesSameCode parked code levels s w used place t w₁ r

@@ -1,6 +1,6 @@
 -- What the functions of the merge promise: the table between x and z spells the model's merge, and grows by at most four bytes for each byte
 -- that came in; or the number is the model's clash. Each says so of every table and every incoming part that stand where it is told.
-use Rattle.std.specs.Prelude.{ℕ, suc, ◌+◌, ◌*◌, ◌≤◌, ◌<◌, ◌≡◌, List, [], ◌∷◌, ◌++◌, Bool, cond, ◌||◌, ◌&&◌, ◌⊎◌, length, get_or}
+use Rattle.std.specs.Prelude.{ℕ, suc, ◌+◌, ◌*◌, ◌≤◌, ◌<◌, ◌≡◌, List, [], ◌∷◌, ◌++◌, Bool, cond, ◌||◌, ◌&&◌, ◌⊎◌, length, get_or, Result, Ok, Err}
 use Rattle.model.specs.Bytes.{Bytes, same, same_bytes}
 use Rattle.model.specs.Tree.{FieldOver, DataType, Field, with_data_type, with_children, List', LargeList, Struct, Union}
 use Rattle.model.specs.Sheet.{each, field_bytes, type_bytes}
@@ -8,12 +8,14 @@ use Rattle.model.specs.Merge as model
 use Rattle.model.specs.Merge.{◌>>=◌, done, need, orders_agree, merge_field, merge_by_name, merge_each, merge_same_code, merge_type, is_null, pour}
 use Rattle.model.specs.Numbers.{type_clash}
 use Rattle.model.specs.Equal.{same_child, same_type}
+use Rattle.buffer.specs.declared.refusal.Number.{Number}
 use Rattle.walk.specs.Stands.{Stands}
 use Rattle.table.specs.Held.{Held}
 use Rattle.table.specs.Table.{no_place, u24, open_struct, SpellField, SpellType, SpellRow}
 use Rattle.table.specs.Look.{Cut}
 use Rattle.table.specs.Becomes.{Incoming, IncomingType, IncomingFields, Becomes, Coded}
-use Rattle.table.specs.declared.Merged.{Merged}
+use Rattle.table.specs.Says.{Merged}
+use Rattle.field.specs.declared.Placed.{Placed}
 
 -- a field into the entry at a place
 pub record MergesField (parked : Bool) (levels : ℕ) (s w : Bytes) (used place q : ℕ) (w' : Bytes) (r : Merged) : Type 0 where
@@ -47,6 +49,11 @@ Hinted l s row hint k y fs = SpellRow l s k y fs × Cut l s row k y fs hint
 pub record Puts (parked : Bool) (levels : ℕ) (s w : Bytes) (used row hint q : ℕ) (w' : Bytes) (r : Merged) (next : ℕ) : Type 0 where
   pub says : (l : ℕ) (g : Field l) → l ≤ levels → Incoming l s q g
       → Becomes (Hinted l s row hint) (Hinted l s row next) w used row (4 * length (field_bytes (type_bytes l) g)) w' r λ fs. by_name parked l fs g
+
+-- of what it answers; at a clash there is no next one
+abbrev pub PutsField : (parked : Bool) (levels : ℕ) (s w : Bytes) (used row hint q : ℕ) (w' : Bytes) → Result Placed Number → Type 0
+PutsField parked levels s w used row hint q w' (Ok placed) = Puts parked levels s w used row hint q w' (Ok placed.used) placed.next
+PutsField parked levels s w used row hint q w' (Err c) = Puts parked levels s w used row hint q w' (Err c) row
 
 -- The parts of merging a field
 

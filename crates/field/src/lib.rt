@@ -3,30 +3,18 @@
 // for four bytes for each byte that comes in, they do what the definitions of specs/Claims.antt say.
 #![tactic(auto)]
 
-ghost use Rattle.std.specs.Prelude.{◌≡◌, ◌||◌, length, eqb};
-ghost use Rattle.model.specs.Tree.{List', LargeList};
-ghost use Rattle.field.specs.Claims.{HasNull, OrdersAgree, OpensStruct, MergesField, MergesRest, MergesType, MergesSameCode, MergesEqual, MergesStruct, MergesList, SetsFlags, Pours, Puts};
+ghost use Rattle.std.specs.Prelude.{◌≡◌, length};
+ghost use Rattle.field.specs.Claims.{HasNull, OrdersAgree, OpensStruct, MergesField, MergesRest, MergesType, MergesSameCode, MergesEqual, MergesStruct, MergesList, SetsFlags, Pours, PutsField};
 
-use table::{Found, Merged};
+use buffer::Number;
+use layout::{LARGE_LIST, LIST, NULL, STRUCT, UNION};
+use table::Kind;
+use walk::Elements;
 
-const NULL: usize = 0;
-
-const STRUCT: usize = 32;
-
-const UNION: usize = 33;
-
-const LIST: usize = 27;
-
-const LARGE_LIST: usize = 30;
-
-const ORDERED_CLASH: u8 = 20;
-
-const TYPE_CLASH: u8 = 22;
-
-// What putting one field into a row ends with, and where to look first for the next one.
+// How many bytes are in use when one field was put into a row, and where to look first for the next one.
 #[derive(Clone, Copy)]
 struct Placed {
-    merged: Merged,
+    used: usize,
     next: usize,
 }
 
@@ -35,58 +23,47 @@ struct Placed {
 fn set_flags(s: &[u8], w: &mut [u8], used: usize, at: usize, b: usize, q: usize, t: usize)
     ensures { (length w.new ≡ length w.old) × SetsFlags s.now w.old used at b q t w.new }
 {
-    let flags = walk::byte(&w[..], at);
-    let mine = table::code_at(s, &w[..], b);
+    let flags = walk::byte(w, at);
+    let mine = table::code_at(s, w, b);
     let n = table::flags_of(flags, walk::byte(s, q), mine, walk::byte(s, t));
     table::set_byte(w, used, at, n);
 }
 
-// "List and LargeList merge their child".
-fn is_list(code: usize) -> bool
-    ensures { result ≡ (eqb code List' || eqb code LargeList) }
-{
-    if code == LIST {
-        return true;
-    }
-    code == LARGE_LIST
-}
-
 // "All other types must be equal." Of a plain type the code says everything, and both have one code.
-fn same_or_clash(s: &[u8], w: &mut [u8], used: usize, at: usize, t: usize, levels: usize) -> Merged
+fn same_or_clash(
+    s: &[u8],
+    w: &mut [u8],
+    used: usize,
+    at: usize,
+    t: usize,
+    levels: usize,
+) -> Result<usize, Number>
     ensures { (length w.new ≡ length w.old) × MergesEqual levels s.now w.old used at t w.new result }
 {
     if layout::is_plain(walk::byte(s, t)) {
-        return Merged::Used(used);
+        return Ok(used);
     }
-    let own = table::three(&w[..], walk::ahead(&w[..], at, 1));
+    let own = table::three(w, walk::ahead(w, at, 1));
     if datatype::same_type(s, own, s, t, levels) {
-        return Merged::Used(used);
+        return Ok(used);
     }
-    Merged::Clash(TYPE_CLASH)
+    Err(Number::TypeClash)
 }
 
 // Whether the type of an entry or that of a field of the train is Null.
 fn has_null(s: &[u8], w: &[u8], at: usize, q: usize) -> bool
     ensures { HasNull s.now w.now at q result }
 {
-    let b = table::skip_head(w, at);
-    if table::code_at(s, w, b) == NULL {
-        return true;
-    }
-    walk::byte(s, walk::skip_head(s, q)) == NULL
+    table::code_at(s, w, table::skip_head(w, at)) == NULL
+        || walk::byte(s, walk::skip_head(s, q)) == NULL
 }
 
 // Whether the order flags let a field of the train be merged into an entry: they are equal; or, parked log first, either type is Null.
 fn orders_agree(s: &[u8], w: &[u8], at: usize, q: usize, parked: bool) -> bool
     ensures { OrdersAgree parked s.now w.now at q result }
 {
-    if walk::byte(w, at) / 2 % 2 == walk::byte(s, q) / 2 % 2 {
-        return true;
-    }
-    if parked {
-        return has_null(s, w, at, q);
-    }
-    false
+    walk::bit(walk::byte(w, at), 1) == walk::bit(walk::byte(s, q), 1)
+        || parked && has_null(s, w, at, q)
 }
 
 // A field into the entry at a place: `Field::try_merge`. "Checks in order: ordered flags, metadata, type."
@@ -99,14 +76,14 @@ pub fn merge_field(
     q: usize,
     levels: usize,
     parked: bool,
-) -> Merged
+) -> Result<usize, Number>
     ensures { (length w.new ≡ length w.old) × MergesField parked levels s.now w.old used at q w.new result }
 {
-    if !orders_agree(s, &w[..], at, q, parked) {
-        return Merged::Clash(ORDERED_CLASH);
+    if !orders_agree(s, w, at, q, parked) {
+        return Err(Number::OrderedClash);
     }
     let got = metadata::merge_metadata(s, w, used, at, q);
-    let Merged::Used(kept) = got else {
+    let Ok(kept) = got else {
         return got;
     };
     merge_rest(s, w, kept, at, q, levels, parked)
@@ -122,10 +99,10 @@ fn merge_rest(
     q: usize,
     levels: usize,
     parked: bool,
-) -> Merged
+) -> Result<usize, Number>
     ensures { (length w.new ≡ length w.old) × MergesRest parked levels s.now w.old used at q w.new result }
 {
-    let b = table::skip_head(&w[..], at);
+    let b = table::skip_head(w, at);
     let t = walk::skip_head(s, q);
     set_flags(s, w, used, at, b, q, t);
     merge_type(s, w, used, b, t, levels, parked)
@@ -141,20 +118,20 @@ fn merge_type(
     t: usize,
     levels: usize,
     parked: bool,
-) -> Merged
+) -> Result<usize, Number>
     ensures { (length w.new ≡ length w.old) × MergesType parked levels s.now w.old used at t w.new result }
 {
-    let mine = table::code_at(s, &w[..], at);
+    let mine = table::code_at(s, w, at);
     let theirs = walk::byte(s, t);
     if mine == NULL {
         table::take_type(w, used, at, t);
-        return Merged::Used(used);
+        return Ok(used);
     }
     if theirs == NULL {
-        return Merged::Used(used);
+        return Ok(used);
     }
     if mine != theirs {
-        return Merged::Clash(TYPE_CLASH);
+        return Err(Number::TypeClash);
     }
     merge_same_code(s, w, used, at, t, mine, levels, parked)
 }
@@ -170,22 +147,18 @@ fn merge_same_code(
     code: usize,
     levels: usize,
     parked: bool,
-) -> Merged
+) -> Result<usize, Number>
     ensures { (length w.new ≡ length w.old) × MergesSameCode parked code levels s.now w.old used at t w.new result }
 {
     if levels <= 0 {
-        return Merged::Used(used);
+        return Ok(used);
     }
-    if code == STRUCT {
-        return merge_struct(s, w, used, at, t, levels - 1, parked);
+    match code {
+        STRUCT => merge_struct(s, w, used, at, t, levels - 1, parked),
+        UNION => members::merge_union(s, w, used, at, t, levels - 1),
+        LIST | LARGE_LIST => merge_list(s, w, used, at, t, levels - 1, parked),
+        _ => same_or_clash(s, w, used, at, t, levels),
     }
-    if code == UNION {
-        return members::merge_union(s, w, used, at, t, levels - 1);
-    }
-    if is_list(code) {
-        return merge_list(s, w, used, at, t, levels - 1, parked);
-    }
-    same_or_clash(s, w, used, at, t, levels)
 }
 
 // Two structs: "Struct pours its own children, then the other's, through the merge by name, so equal names inside it fold."
@@ -198,49 +171,38 @@ fn merge_struct(
     t: usize,
     levels: usize,
     parked: bool,
-) -> Merged
+) -> Result<usize, Number>
     ensures { (length w.new ≡ length w.old) × MergesStruct parked levels s.now w.old used at t w.new result }
 {
-    let inner = walk::ahead(&w[..], at, 4);
+    let inner = walk::ahead(w, at, 4);
     let got = pour_own(s, w, used, at, levels, parked);
-    let Merged::Used(own) = got else {
+    let Ok(own) = got else {
         return got;
     };
-    let count = walk::two(s, walk::ahead(s, t, 1));
-    pour(
-        s,
-        w,
-        own,
-        inner,
-        walk::ahead(s, t, 3),
-        count,
-        levels,
-        parked,
-    )
+    let children = Elements::counted(s, walk::ahead(s, t, 1));
+    pour(s, w, own, inner, children, levels, parked)
 }
 
 // A raw struct is opened and its own children poured; an open one has them already.
 #[cycle(merging)]
-fn pour_own(s: &[u8], w: &mut [u8], used: usize, at: usize, levels: usize, parked: bool) -> Merged
+fn pour_own(
+    s: &[u8],
+    w: &mut [u8],
+    used: usize,
+    at: usize,
+    levels: usize,
+    parked: bool,
+) -> Result<usize, Number>
     ensures { (length w.new ≡ length w.old) × OpensStruct parked levels s.now w.old used at w.new result }
 {
-    if walk::byte(&w[..], at) == 1 {
-        return Merged::Used(used);
+    if table::kind_at(w, at) == Kind::OpenStruct {
+        return Ok(used);
     }
-    let own = table::three(&w[..], walk::ahead(&w[..], at, 1));
-    let inner = walk::ahead(&w[..], at, 4);
-    let count = walk::two(s, walk::ahead(s, own, 1));
+    let own = table::three(w, walk::ahead(w, at, 1));
+    let inner = walk::ahead(w, at, 4);
+    let children = Elements::counted(s, walk::ahead(s, own, 1));
     let opened = table::open_struct(w, used, at);
-    pour(
-        s,
-        w,
-        opened,
-        inner,
-        walk::ahead(s, own, 3),
-        count,
-        levels,
-        parked,
-    )
+    pour(s, w, opened, inner, children, levels, parked)
 }
 
 // Two lists, or two large lists: the child with the other's; it keeps its own name.
@@ -253,44 +215,37 @@ fn merge_list(
     t: usize,
     levels: usize,
     parked: bool,
-) -> Merged
+) -> Result<usize, Number>
     ensures { (length w.new ≡ length w.old) × MergesList parked levels s.now w.old used at t w.new result }
 {
-    let inner = walk::ahead(&w[..], at, 4);
+    let inner = walk::ahead(w, at, 4);
     let opened = table::open_list(s, w, used, at);
     merge_field(s, w, opened, inner, walk::ahead(s, t, 1), levels, parked)
 }
 
-// So many fields of the train into a row, by name: `SchemaBuilder::try_merge` for each. A loop: a thousand take no more stack than one.
+// Fields of the train into a row, by name: `SchemaBuilder::try_merge` for each. A loop: a thousand take no more stack than one.
 #[cycle(merging)]
 pub fn pour(
     s: &[u8],
     w: &mut [u8],
     used: usize,
     row: usize,
-    q: usize,
-    count: usize,
+    fields: Elements,
     levels: usize,
     parked: bool,
-) -> Merged
-    ensures { (length w.new ≡ length w.old) × Pours parked levels s.now w.old used row q count w.new result }
+) -> Result<usize, Number>
+    ensures { (length w.new ≡ length w.old) × Pours parked levels s.now w.old used row fields.at fields.count w.new result }
 {
     let mut held = used;
     let mut hint = row;
-    let mut place = q;
-    let mut left = count;
-    while 0 < left {
-        let step = put(s, w, held, row, hint, place, levels, parked);
-        hint = step.next;
-        let merged = step.merged;
-        let Merged::Used(end) = merged else {
-            return merged;
-        };
-        held = end;
+    let mut place = fields.at;
+    for _ in 0..fields.count {
+        let placed = put(s, w, held, row, hint, place, levels, parked)?;
+        held = placed.used;
+        hint = placed.next;
         place = walk::skip_field(s, place, levels);
-        left -= 1;
     }
-    Merged::Used(held)
+    Ok(held)
 }
 
 // One field of the train into a row: into the entry of its name, behind which the next one is looked for first; or behind them all.
@@ -304,22 +259,18 @@ fn put(
     q: usize,
     levels: usize,
     parked: bool,
-) -> Placed
-    ensures { (length w.new ≡ length w.old) × Puts parked levels s.now w.old used row hint q w.new result.merged result.next }
+) -> Result<Placed, Number>
+    ensures { (length w.new ≡ length w.old) × PutsField parked levels s.now w.old used row hint q w.new result }
 {
-    let found = table::find(s, &w[..], row, hint, q, levels);
-    match found {
-        Found::At(place) => {
-            let merged = merge_field(s, w, used, place, q, levels, parked);
-            let next = table::next_entry(&w[..], place, levels);
-            Placed { merged, next }
+    match table::find(s, w, row, hint, q, levels) {
+        Ok(place) => {
+            let used = merge_field(s, w, used, place, q, levels, parked)?;
+            let next = table::next_entry(w, place, levels);
+            Ok(Placed { used, next })
         }
-        Found::Absent(end) => {
-            let grown = table::insert_entry(s, w, used, end, q);
-            Placed {
-                merged: Merged::Used(grown),
-                next: row,
-            }
+        Err(end) => {
+            let used = table::insert_entry(s, w, used, end, q);
+            Ok(Placed { used, next: row })
         }
     }
 }

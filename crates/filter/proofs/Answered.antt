@@ -2,7 +2,6 @@
 use Prim.Native.Nat.{ℕ, ◌*◌, ◌≤◌}
 use native.Mathlib.Omega.{arith}
 use mathlib.Core.Path.{◌≡◌, sym, ap, ◌∙◌}
-use mathlib.Core.Bool.{Bool, false}
 use lib.ListN.{length, take, length-append}
 use lib.Seq.{take_at}
 use lib.Dec.{ltb}
@@ -14,12 +13,14 @@ use Rattle.model.specs.Sheet.{sheet_bytes}
 use Rattle.model.specs.Read.{read_sheet, judged, unless}
 use Rattle.model.specs.Filter.{leaf_count, filter_leaves}
 use Rattle.model.specs.Call.{Answer, bytes, refused, and_then, sheet_answer, filter_answer, filter_call, zeros, acceptance}
-use Rattle.sheet.specs.declared.Step.{Step}
-use Rattle.sheet.specs.declared.Step.TheVariants.{Refused}
 use Rattle.sheet.specs.Answers.{step_of}
 use Rattle.sheet.proofs.Reading.{Whole, sheet_refused}
-use Rattle.buffer.specs.declared.Outcome.{Outcome}
-use Rattle.buffer.specs.Leaves.{leaves, refused_with}
+use Rattle.std.specs.Prelude.{Result, Ok, Err}
+use Rattle.buffer.specs.declared.refusal.Number.{Number}
+use Rattle.buffer.specs.declared.refusal.Refusal.{Refusal}
+use Rattle.buffer.specs.Leaves.{leaves}
+use Rattle.buffer.specs.Puts.{unless_short}
+use Rattle.buffer.specs.Refusals.{number_of, numbered, without_place}
 use Rattle.buffer.proofs.Room.{room_enough}
 use Rattle.buffer.proofs.Ends.{call_refused, call_written}
 use Rattle.filter.specs.declared.Reach.{Reach}
@@ -38,12 +39,13 @@ mask_fits : (x : Schema) (mask : Bytes) → leaf_count x ≡ length mask → ans
 unfolding filter_leaves sheet_answer and_then judged unless
 mask_fits x mask h = rw (eq-eqb (length mask) (leaf_count x) (sym h))
 
-pub filter_refused : (s mask : Bytes) {k : Step} → k ≡ step_of (read_sheet s) → {n p : ℕ} → k ≡ Refused n p → filter_answer s mask ≡ refused n p
+pub filter_refused : (s mask : Bytes) {read : Result ℕ Refusal} {x : Refusal} → numbered read ≡ step_of (read_sheet s) → read ≡ Err x
+    → filter_answer s mask ≡ refused (number_of x.0) x.1
 unfolding filter_answer
 filter_refused s mask e h = sheet_refused s (answered mask) e h
 
-module _ {s : Bytes} (mask : Bytes) (a : Whole s (answered mask)) {t : Bool} {w w' : Bytes} {r : Reach}
-    (tested : t ≡ ltb (length w) (work_bytes_per_sheet_byte * length s)) (h : t ≡ false) (g : FiltersSheet s mask w w' r) where
+module _ {s : Bytes} (mask : Bytes) (a : Whole s (answered mask)) {room : Result Unit Refusal} {w w' : Bytes} {r : Reach}
+    (tested : room ≡ unless_short (ltb (length w) (work_bytes_per_sheet_byte * length s))) (h : room ≡ Ok tt) (g : FiltersSheet s mask w w' r) where
   outcome : filter_answer s mask ≡ answered mask a.schema
   unfolding filter_answer
   outcome = a.outcome
@@ -54,12 +56,12 @@ module _ {s : Bytes} (mask : Bytes) (a : Whole s (answered mask)) {t : Bool} {w 
   pub end_inside : r.written ≤ length w'
   end_inside = omega (arith, kept.1.end, ap length kept.1.bytes, length-append (sheet_bytes (filtered a.schema mask)) kept.1.rest)
 
-  pub call_mask : {o : Outcome} {work : Bytes} (answer : Bytes) → (r.leaf ≡ length mask → ⊥) → o ≡ refused_with mask_length 0 → length w' ≡ length w → work ≡ zeros (length w')
-      → leaves o answer work ≡ filter_call s mask w answer
+  pub call_mask : {o : Result ℕ Refusal} {work : Bytes} (answer : Bytes) → (r.leaf ≡ length mask → ⊥) → o ≡ Err (without_place Number.MaskLength) → length w' ≡ length w
+      → work ≡ zeros (length w') → leaves o answer work ≡ filter_call s mask w answer
   call_mask answer d e len z =
       call_refused (length s) (filter_answer s mask) w answer tested h (outcome ∙ mask_differs a.schema mask λ i. d (kept.0 ∙ i)) e (z ∙ ap zeros len)
 
-  pub call_filtered : (o : Outcome) {work : Bytes} (answer answer' : Bytes) → r.leaf ≡ length mask
+  pub call_filtered : (o : Result ℕ Refusal) {work : Bytes} (answer answer' : Bytes) → r.leaf ≡ length mask
       → ((z : Bytes) → leaves o answer' z ≡ acceptance (take r.written w') z answer) → length w' ≡ length w → work ≡ zeros (length w')
       → leaves o answer' work ≡ filter_call s mask w answer
   call_filtered o {work} answer answer' d f len z =

@@ -7,6 +7,7 @@ use mathlib.Core.List.{List, [], ◌∷◌, ◌++◌, append-nil}
 use mathlib.Core.Bool.{Bool, true, false}
 use lib.ListN.{length, drop, get_or}
 use lib.Seq.{get_or-drop}
+use Rattle.std.specs.Prelude.{Option, None, Some}
 use lib.Dec.{eqb}
 use borrow.Author.Tests.{eqb-true}
 use Rattle.model.specs.Numbers.{max_sheet_bytes}
@@ -21,8 +22,7 @@ use Rattle.walk.proofs.Parts.{Ahead}
 use Rattle.walk.proofs.Descents.{type_stands}
 use Rattle.buffer.specs.Puts.{Puts}
 use Rattle.filter.specs.declared.Reach.{Reach}
-use Rattle.filter.specs.declared.Sifted.{Sifted}
-use Rattle.filter.specs.Filters.{Begins, Filters, FiltersLeaf, first_bytes, alone, below, unless_nothing, TypeSifted, FieldFiltered, ChildFiltered, FiltersType, FiltersField, FiltersChild, child_bytes, kept_of}
+use Rattle.filter.specs.Filters.{Begins, Filters, FiltersTo, CopiesTo, FiltersLeaf, first_bytes, alone, below, unless_nothing, TypeSifted, FieldFiltered, ChildFiltered, FiltersType, FiltersField, FiltersChild, child_bytes, kept_of}
 use Rattle.filter.proofs.Walking.{filters_when, filters_as, filters_copied, filters_join, filters_fronted, filters_undone}
 
 -- Bytes that are not none
@@ -102,22 +102,23 @@ module _ {s : Bytes} {place next end after : ℕ} (f : next < max_sheet_bytes �
       })
 
   -- a leaf that is copied
-  pub leaf_kept : (v : ℕ) {byte : ℕ} {w : Bytes} {p : ℕ} {w' : Bytes} {q : ℕ} → byte ≡ v → (byte ≡ 0 → ⊥) → ((b : Bytes) → Stands s place b → end ≡ place + length b → Puts b w p w' q)
-      → (b : Bytes) → 1 ≤ length b → Skips s place b end → Filters s b 1 (choose (eqb v 0) (λ u. []) λ u. b) place next w p end after w' q
+  pub leaf_kept : (v : ℕ) {byte : ℕ} {w : Bytes} {p : ℕ} {w' : Bytes} {r : Reach} → byte ≡ v → (byte ≡ 0 → ⊥) → CopiesTo s (record { at = place; leaf = after; written = p }) end w w' r
+      → (b : Bytes) → 1 ≤ length b → Skips s place b end → FiltersTo s b 1 (choose (eqb v 0) (λ u. []) λ u. b) place next w p w' r
   unfolding choose
-  leaf_kept v {byte} {w} {p} {w'} {q} d e put b n skip =
-      filters_as refl refl (sym (choose_false _ _ _ (go (eqb v 0) refl)))
+  leaf_kept v {byte} {w} {p} {w'} {r} d e copy b n skip =
+      subst (FiltersTo s b 1 (choose (eqb v 0) (λ u. []) λ u. b) place next w p w') (sym copy.behind)
+      (filters_as refl refl (sym (choose_false _ _ _ (go (eqb v 0) refl)))
       (record {
         does = λ x st h g.
             let j = f (omega (arith, h.leaves, h.small, st.inside, n)) in
-            let c = (filters_copied {next = next} b skip put).does x st h g in
+            let c = (filters_copied {next = next} b skip copy.puts).does x st h g in
             record {
               behind = c.behind;
               leaves = j;
               fair = record { small = h.small; room = c.fair.room; leaves = omega (arith, h.leaves, c.behind, j, n); written = c.fair.written };
               begins = c.begins;
             };
-      })
+      }))
     where
       go : (t : Bool) → eqb v 0 ≡ t → eqb v 0 ≡ false
       go true i = absurd (e (d ∙ eqb-true v 0 i))
@@ -137,37 +138,41 @@ nested_bytes l f m [] rest = refl
 nested_bytes l f m (t ∷ ts) rest =
     part_some (λ k. head_bytes f.head ++ k) (type_bytes l t) (type_some l t) ∙ sym (append-nil (head_bytes f.head ++ type_bytes l t))
 
-module _ {s : Bytes} {place body : ℕ} (levels : ℕ) (mask : Bytes) {next : ℕ} {w : Bytes} {p : ℕ} {w₁ : Bytes} {start : ℕ} {w₂ : Bytes} {r : Sifted}
-    (skip : (h : Head) → Skips s place (head_bytes h) body) (put : Copies s place body w p w₁ start)
-    (type : FiltersType s body levels true mask next w₁ start w₂ r) where
-  pub field_nested : {reach o : Reach} → r ≡ Sifted.Nested reach → o ≡ unless_nothing p start reach → FiltersField s place levels mask next w p w₂ o
+module _ {s : Bytes} {from : Reach} {body : ℕ} (levels : ℕ) (mask : Bytes) {w w₁ : Bytes} {start : Reach} {w₂ : Bytes} {r : Option Reach}
+    (skip : (h : Head) → Skips s from.at (head_bytes h) body) (copy : CopiesTo s from body w w₁ start)
+    (type : FiltersType s start.at levels true mask start.leaf w₁ start.written w₂ r) where
+  type_filtered : FiltersType s body levels true mask from.leaf w₁ start.written w₂ r
+  type_filtered = subst (λ y. FiltersType s y.at levels true mask y.leaf w₁ y.written w₂ r) copy.behind type
+
+  pub field_nested : {reach o : Reach} → r ≡ Some reach → o ≡ unless_nothing from.written start.written reach
+      → FiltersField s from.at levels mask from.leaf w from.written w₂ o
   unfolding field_bytes filter_field field_leaf_count
-  field_nested {reach} {o} e u l f h z = filters_when λ st. go (type l f.data_type h z (type_stands l f skip st))
+  field_nested {reach} {o} e u l f h z = filters_when λ st. go (type_filtered l f.data_type h z (type_stands l f skip st))
     where
-      go : TypeSifted s mask l true f.data_type body next w₁ start w₂ r
-          → FieldFiltered s mask l f place next w p w₂ o
+      go : TypeSifted s mask l true f.data_type body from.leaf w₁ start.written w₂ r
+          → FieldFiltered s mask l f from.at from.leaf w from.written w₂ o
       go (alone a b c d) = let z : ◌≡◌ {A = ℕ} 0 1 = cc in absurd (omega (arith, z))
       go (below ts rest n to a b c d) =
           let same : to ≡ reach = cc in
-          subst (FieldFiltered s mask l f place next w p w₂)
-          (ap (unless_nothing p start) same ∙ sym u)
+          subst (FieldFiltered s mask l f from.at from.leaf w from.written w₂)
+          (ap (unless_nothing from.written start.written) same ∙ sym u)
           (filters_as refl (sym (ap field_leaf_count b))
-          (nested_bytes l f (drop next mask) ts rest ∙ sym (ap (λ y. each (field_bytes (type_bytes l)) (filter_to f (drop next mask) y).kept) a))
-          (filters_fronted (filters_copied (head_bytes f.head) (skip f.head) put) d))
+          (nested_bytes l f (drop from.leaf mask) ts rest ∙ sym (ap (λ y. each (field_bytes (type_bytes l)) (filter_to f (drop from.leaf mask) y).kept) a))
+          (filters_fronted (filters_copied (head_bytes f.head) (skip f.head) copy.puts) d))
 
   -- the field is a leaf
-  pub field_leaf : {end : ℕ} {w₃ : Bytes} {o : Reach} → r ≡ Sifted.Leaf → SkipsType s body levels end → FiltersLeaf s place end mask next w₂ p w₃ o
-      → FiltersField s place levels mask next w p w₃ o
+  pub field_leaf : {end : ℕ} {w₃ : Bytes} {o : Reach} → r ≡ None → SkipsType s body levels end → FiltersLeaf s from.at end mask from.leaf w₂ from.written w₃ o
+      → FiltersField s from.at levels mask from.leaf w from.written w₃ o
   unfolding field_bytes filter_field filter_to field_leaf_count
-  field_leaf {end} {w₃} {o} e types i l f h z = filters_when λ st. go st (type l f.data_type h z (type_stands l f skip st))
+  field_leaf {end} {w₃} {o} e types i l f h z = filters_when λ st. go st (type_filtered l f.data_type h z (type_stands l f skip st))
     where
-      go : Stands s place (field_bytes (type_bytes l) f)
-          → TypeSifted s mask l true f.data_type body next w₁ start w₂ r
-          → FieldFiltered s mask l f place next w p w₃ o
+      go : Stands s from.at (field_bytes (type_bytes l) f)
+          → TypeSifted s mask l true f.data_type body from.leaf w₁ start.written w₂ r
+          → FieldFiltered s mask l f from.at from.leaf w from.written w₃ o
       go st (alone a b c d) =
           filters_as refl (sym (ap field_leaf_count b))
-          (leaf_bytes (field_bytes (type_bytes l)) f mask next ∙ sym (ap (λ y. each (field_bytes (type_bytes l)) (filter_to f (drop next mask) y).kept) a))
-          (filters_join (filters_undone (head_bytes f.head) (type_bytes l f.data_type) st (filters_copied (head_bytes f.head) (skip f.head) put) d)
+          (leaf_bytes (field_bytes (type_bytes l)) f mask from.leaf ∙ sym (ap (λ y. each (field_bytes (type_bytes l)) (filter_to f (drop from.leaf mask) y).kept) a))
+          (filters_join (filters_undone (head_bytes f.head) (type_bytes l f.data_type) st (filters_copied (head_bytes f.head) (skip f.head) copy.puts) d)
           λ q. i (field_bytes (type_bytes l) f) (field_some (type_bytes l) f) (skip_join (skip f.head) (types l f.data_type h z)))
       go st (below ts rest n to a b c d) = let z : ◌≡◌ {A = ℕ} 0 1 = cc in absurd (omega (arith, z))
 
@@ -180,11 +185,12 @@ child_kept l front f ks (one g h e) =
     rw (e, ← h, append-nil (field_bytes (type_bytes l) g), append-nil (front g.head ++ field_bytes (type_bytes l) g))
     (part_some (λ k. front g.head ++ k) (field_bytes (type_bytes l) g) (field_some (type_bytes l) g))
 
-module _ {s : Bytes} {place field : ℕ} (before levels : ℕ) (mask : Bytes) {next : ℕ} {w : Bytes} {p : ℕ} {w₁ : Bytes} {start : ℕ} {w₂ : Bytes} {reach o : Reach} where
-  pub child_filtered : Ahead s place before field → Copies s place field w p w₁ start → FiltersField s field levels mask next w₁ start w₂ reach
-      → o ≡ unless_nothing p start reach → FiltersChild s place before levels mask next w p w₂ o
-  child_filtered a put g u l front f n h z =
-      subst (ChildFiltered s mask l front f place next w p w₂)
+module _ {s : Bytes} {from : Reach} {field : ℕ} (before levels : ℕ) (mask : Bytes) {w w₁ : Bytes} {start : Reach} {w₂ : Bytes} {reach o : Reach} where
+  pub child_filtered : Ahead s from.at before field → CopiesTo s from field w w₁ start → FiltersField s start.at levels mask start.leaf w₁ start.written w₂ reach
+      → o ≡ unless_nothing from.written start.written reach → FiltersChild s from.at before levels mask from.leaf w from.written w₂ o
+  child_filtered a copy g u l front f n h z =
+      let filtered = subst (λ y. FiltersField s y.at levels mask y.leaf w₁ y.written w₂ reach) copy.behind g in
+      subst (ChildFiltered s mask l front f from.at from.leaf w from.written w₂)
       (sym u)
-      (filters_as refl refl (child_kept l front f (kept_of l f (drop next mask)) (field_one (filter_type l true) f (drop next mask)))
-      (filters_fronted (filters_copied (front f.head) (skip_ahead (front f.head) (n f.head) a.1) put) (g l f h z)))
+      (filters_as refl refl (child_kept l front f (kept_of l f (drop from.leaf mask)) (field_one (filter_type l true) f (drop from.leaf mask)))
+      (filters_fronted (filters_copied (front f.head) (skip_ahead (front f.head) (n f.head) a.1) copy.puts) (filtered l f h z)))

@@ -1,12 +1,13 @@
 -- The loop over children, and a count before them.
-use Prim.Native.Nat.{ℕ, ◌+◌, ◌-◌, ◌%◌, ◌/◌, ◌≤◌, ◌<◌}
+use Prim.Native.Nat.{ℕ, ◌+◌, ◌%◌, ◌/◌, ◌≤◌, ◌<◌}
 use native.Mathlib.Omega.{arith}
 use native.Mathlib.Nat.{zero-add}
 use mathlib.Core.Path.{◌≡◌, refl, sym, ap, subst, ◌∙◌}
 use mathlib.Core.List.{List, [], ◌∷◌, ◌++◌, append-nil, append_assoc}
-use mathlib.Core.Bool.{true}
+use mathlib.Core.Bool.{Bool, true, false, not}
 use lib.ListN.{length, drop, length-append}
 use lib.Seq.{drop-drop}
+use Rattle.std.specs.Int.{from_bool}
 use lib.Dec.{eqb}
 use borrow.Author.Tests.{eq-eqb, ne_eqb}
 use Rattle.model.specs.Numbers.{max_sheet_bytes}
@@ -29,6 +30,12 @@ use Rattle.filter.specs.declared.Row.{Row}
 use Rattle.filter.specs.Filters.{Begins, Fair, Passed, FiltersEach, ChildFiltered, ChildrenFiltered, CountedFiltered, FiltersRow, FiltersCounted, child_bytes, leaves_of, leaves_of_all, kept_of, kept_of_all, unless_nothing}
 use Rattle.filter.proofs.Walking.{begins_put, begins_over, begins_unless, unless_inside}
 use Rattle.filter.proofs.Fields.{part_some, field_some, KeptOne, none, one, field_one}
+
+-- one more where the position moved, else none
+pub kept_more : (moved : Bool) {more : ℕ} → more ≡ from_bool (not moved) → (more ≡ choose moved (λ u. 0) λ u. 1) × (more ≤ 1)
+unfolding choose
+kept_more true e = (e, omega (arith, e))
+kept_more false e = (e, omega (arith, e))
 
 module _ (l : ℕ) (front : Head → Bytes) where
   child_some : (k : Field l) → 1 ≤ length (child_bytes l front k)
@@ -93,15 +100,15 @@ module _ (l : ℕ) (front : Head → Bytes) where
             );
       }
 
-    pub turns_again : {first count next₀ : ℕ} {w₀ : Bytes} {p₀ place left next : ℕ} {w : Bytes} {p c more : ℕ} {w₁ : Bytes} {reach : Reach}
-        → Turns first count next₀ w₀ p₀ place left next w p c → 0 < left
+    pub turns_again : {first count next₀ : ℕ} {w₀ : Bytes} {p₀ place left others next : ℕ} {w : Bytes} {p c more : ℕ} {w₁ : Bytes} {reach : Reach}
+        → Turns first count next₀ w₀ p₀ place left next w p c → left ≡ others + 1
         → ((f : Field l) → LaidOut l f.data_type → ChildFiltered s mask l front f place next w p w₁ reach)
-        → more ≡ choose (eqb reach.written p) (λ u. 0) (λ u. 1) → Turns first count next₀ w₀ p₀ reach.at (left - 1) reach.leaf w₁ reach.written (c + more)
-    turns_again {place = place} {left = left} {next = next} {w = w} {p = p} {c = c} {more = more} {w₁ = w₁} {reach = reach} t h g e = record {
+        → more ≡ choose (eqb reach.written p) (λ u. 0) (λ u. 1) → Turns first count next₀ w₀ p₀ reach.at others reach.leaf w₁ reach.written (c + more)
+    turns_again {place = place} {left = left} {others = others} {next = next} {w = w} {p = p} {c = c} {more = more} {w₁ = w₁} {reach = reach} t h g e = record {
       rest = λ place' next' w' p' c' k. t.rest place' next' w' p' c' (go place' next' w' p' c' k);
     }
       where
-        go : (place' next' : ℕ) (w' : Bytes) (p' c' : ℕ) → Rest reach.at (left - 1) reach.leaf w₁ reach.written (c + more) place' next' w' p' c' → Rest place left next w p c place' next' w' p' c'
+        go : (place' next' : ℕ) (w' : Bytes) (p' c' : ℕ) → Rest reach.at others reach.leaf w₁ reach.written (c + more) place' next' w' p' c' → Rest place left next w p c place' next' w' p' c'
         go place' next' w' p' c' k [] n z = absurd (omega (arith, n, h))
         go place' next' w' p' c' k (f ∷ ks) n z =
             each_join f ks (g f z.0)
@@ -136,7 +143,7 @@ counted_kept l front (k ∷ ks) =
 
 module _ {s : Bytes} {place first n : ℕ} (before levels : ℕ) (mask : Bytes) {next : ℕ} {w : Bytes} {p : ℕ} {w₁ : Bytes} {start : ℕ} {w₂ : Bytes} {row : Row} {w₃ : Bytes} {end : ℕ} {o : Reach} where
   pub counted_filtered : Ahead s place 2 first → n ≡ two_at s place → Puts (two_bytes 0) w p w₁ start → FiltersRow s first n before levels mask next w₁ start w₂ row
-      → Puts (two_bytes row.kept) w₂ p w₃ end → o ≡ unless_nothing p start (record { at = row.at; leaf = row.leaf; written = row.written })
+      → Puts (two_bytes row.kept) w₂ p w₃ end → o ≡ unless_nothing p start row.reach
       → FiltersCounted s place before levels mask next w p w₃ o
   counted_filtered a e hold rows count u l front ks i h z =
       subst (CountedFiltered s mask l front ks place next w p w₃)
@@ -148,10 +155,10 @@ module _ {s : Bytes} {place first n : ℕ} (before levels : ℕ) (mask : Bytes) 
       })
     where
       go : (kept : List (Field l))
-          → FiltersEach s (each (child_bytes l front) ks) (leaves_of_all l ks) (child_bytes l front) kept first next w₁ start 0 row.at row.leaf w₂ row.written row.kept
+          → FiltersEach s (each (child_bytes l front) ks) (leaves_of_all l ks) (child_bytes l front) kept first next w₁ start 0 row.reach.at row.reach.leaf w₂ row.reach.written row.kept
           → (x : Bytes) → Stands s place (with_count (child_bytes l front) ks) → Fair s place next w p → Begins w p x → Stands s first (each (child_bytes l front) ks)
-          → Passed s (with_count (child_bytes l front) ks) (leaves_of_all l ks) (part (with_count (child_bytes l front)) kept) place next x row.at row.leaf w₃
-          (choose (eqb row.written start) (λ u. p) λ u. row.written)
+          → Passed s (with_count (child_bytes l front) ks) (leaves_of_all l ks) (part (with_count (child_bytes l front)) kept) place next x row.reach.at row.reach.leaf w₃
+          (choose (eqb row.reach.written start) (λ u. p) λ u. row.reach.written)
       go kept children x st fair b st' =
           let two : length (with_count (child_bytes l front) ks) ≡ length (each (child_bytes l front) ks) + 2 = length_with_count (child_bytes l front) ks in
           let behind : first ≡ place + 2 = a.1 (omega (arith, st.inside, two)) in
@@ -178,7 +185,7 @@ module _ {s : Bytes} {place first n : ℕ} (before levels : ℕ) (mask : Bytes) 
           ) in
           let bytes : two_bytes row.kept ≡ u16 (length kept) = two_bytes_lem row.kept few ∙ ap u16 (d.1 ∙ zero-add (length kept)) in
           let over = begins_over x (two_bytes 0) (two_bytes row.kept) (each (child_bytes l front) kept) d.0.begins b.end refl count small in
-          let over' = subst (λ y. Begins w₃ row.written ((x ++ y) ++ each (child_bytes l front) kept)) bytes over in
+          let over' = subst (λ y. Begins w₃ row.reach.written ((x ++ y) ++ each (child_bytes l front) kept)) bytes over in
           record {
             behind = omega (arith, d.0.behind, behind, two);
             leaves = d.0.leaves;
@@ -186,8 +193,8 @@ module _ {s : Bytes} {place first n : ℕ} (before levels : ℕ) (mask : Bytes) 
               small = fair.small;
               room = omega (arith, d.0.fair.room, count.size);
               leaves = d.0.fair.leaves;
-              written = unless_inside p start row.written row.at (omega (arith, fair.written, d.0.behind, behind)) d.0.fair.written;
+              written = unless_inside p start row.reach.written row.reach.at (omega (arith, fair.written, d.0.behind, behind)) d.0.fair.written;
             };
-            begins = subst (λ k. Begins w₃ (choose (eqb row.written start) (λ u. p) λ u. row.written) (x ++ k)) (counted_kept l front kept)
+            begins = subst (λ k. Begins w₃ (choose (eqb row.reach.written start) (λ u. p) λ u. row.reach.written) (x ++ k)) (counted_kept l front kept)
                 (begins_unless x (u16 (length kept)) (each (child_bytes l front) kept) over' b.end (omega (arith, b'.end, length-append x (two_bytes 0), length-append x (u16 (length kept)), ap length bytes)));
           }

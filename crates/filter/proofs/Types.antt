@@ -6,6 +6,7 @@ use mathlib.Core.Path.{◌≡◌, refl, sym, ap, subst, ◌∙◌}
 use mathlib.Core.List.{List, [], ◌∷◌, ◌++◌, append-nil, append_assoc}
 use mathlib.Core.Bool.{Bool, true, false, ◌&&◌, ◌||◌}
 use lib.ListN.{length, drop, get_or, length-append}
+use Rattle.std.specs.Prelude.{Option, None, Some}
 use lib.Dec.{eqb}
 use borrow.Author.Tests.{ne_eqb}
 use Rattle.model.specs.Bytes.{Bytes, choose, u16}
@@ -21,10 +22,9 @@ use Rattle.walk.proofs.Standing.{first_stands, second_stands, skip_ahead, skip_j
 use Rattle.walk.proofs.Parts.{Ahead}
 use Rattle.walk.proofs.Descents.{code_stands}
 use Rattle.filter.specs.declared.Reach.{Reach}
-use Rattle.filter.specs.declared.Sifted.{Sifted}
-use Rattle.filter.specs.Filters.{first_bytes, Sifts, alone, below, unless_nothing, TypeSifted, InnerSifted, KindFiltered, HolderFiltered, FiltersType, FiltersField, FiltersCounted, FiltersChildren, FiltersNested, FiltersInner, FiltersEncoded, leaves_of, leaves_of_all, kept_of, kept_of_all}
+use Rattle.filter.specs.Filters.{CopiesTo, first_bytes, Sifts, alone, below, unless_nothing, TypeSifted, InnerSifted, KindFiltered, HolderFiltered, FiltersType, FiltersField, FiltersCounted, FiltersChildren, FiltersNested, FiltersInner, FiltersEncoded, leaves_of, leaves_of_all, kept_of, kept_of_all}
 use Rattle.filter.proofs.Walking.{filters_none, filters_as, filters_copied, filters_fronted, filters_undone}
-use Rattle.filter.proofs.Fields.{part_some, type_some, field_some, Copies}
+use Rattle.filter.proofs.Fields.{part_some, type_some, field_some}
 
 -- The children of a type that holds fields
 
@@ -91,19 +91,20 @@ nested_kept l t [] = refl
 nested_kept l t (k ∷ ks) =
     part_some (λ k. (t.code ∷ t.params) ++ k) (children_bytes (type_bytes l) (layout t.code).children (k ∷ ks)) (children_some l (layout t.code).children k ks)
 
-module _ {s : Bytes} {place : ℕ} (code levels : ℕ) (mask : Bytes) {next : ℕ} {w : Bytes} {p : ℕ} {w₁ : Bytes} {start : ℕ} {w₂ : Bytes} {reach o : Reach} where
-  pub nested_filtered : {params children : ℕ} → Ahead s place 1 params → ((b : Bytes) → WellFormedParams (layout code).params b → Skips s params b children)
-      → Copies s place children w p w₁ start → FiltersChildren s children code levels mask next w₁ start w₂ reach → o ≡ unless_nothing p start reach
-      → FiltersNested s place code levels mask next w p w₂ o
+module _ {s : Bytes} {from : Reach} (code levels : ℕ) (mask : Bytes) {w w₁ : Bytes} {start : Reach} {w₂ : Bytes} {reach o : Reach} where
+  pub nested_filtered : {params children : ℕ} → Ahead s from.at 1 params → ((b : Bytes) → WellFormedParams (layout code).params b → Skips s params b children)
+      → CopiesTo s from children w w₁ start → FiltersChildren s start.at code levels mask start.leaf w₁ start.written w₂ reach
+      → o ≡ unless_nothing from.written start.written reach → FiltersNested s from.at code levels mask from.leaf w from.written w₂ o
   unfolding type_bytes
-  nested_filtered {params} {children} a f put g u l t h e c z =
+  nested_filtered {params} {children} a f copy g u l t h e c z =
+      let filtered = subst (λ y. FiltersChildren s y.at code levels mask y.leaf w₁ y.written w₂ reach) copy.behind g in
       let kids = subst (λ c. holds_fields c ≡ true → CountFits (layout c).children t.children → AllLaidOut l t.children
-      → KindFiltered s mask l (layout c).children t.children children next w₁ start w₂ reach)
-      e (g l t.children h) in
-      subst (HolderFiltered s mask l t place next w p w₂)
+      → KindFiltered s mask l (layout c).children t.children children from.leaf w₁ start.written w₂ reach)
+      e (filtered l t.children h) in
+      subst (HolderFiltered s mask l t from.at from.leaf w from.written w₂)
       (sym u)
-      (filters_as refl refl (nested_kept l t (kept_of_all l t.children (drop next mask)))
-      (filters_fronted (filters_copied (t.code ∷ t.params) (front_skips code a f l t e z) put) (kids (sym (ap holds_fields e) ∙ c) z.1 z.2)))
+      (filters_as refl refl (nested_kept l t (kept_of_all l t.children (drop from.leaf mask)))
+      (filters_fronted (filters_copied (t.code ∷ t.params) (front_skips code a f l t e z) copy.puts) (kids (sym (ap holds_fields e) ∙ c) z.1 z.2)))
 
 -- A type and what stands before it
 
@@ -111,30 +112,33 @@ inner_kept : (l : ℕ) (a : Bytes) (ts : List (DataType l)) → part (λ k. a ++
 inner_kept l a [] = refl
 inner_kept l a (t ∷ ts) = part_some (λ k. a ++ k) (type_bytes l t) (type_some l t)
 
-module _ {s : Bytes} {place inner : ℕ} (levels : ℕ) (mask : Bytes) {next : ℕ} {w : Bytes} {p : ℕ} {w₁ : Bytes} {start : ℕ} {w₂ : Bytes} {r : Sifted}
-    (put : Copies s place inner w p w₁ start) (type : FiltersType s inner levels false mask next w₁ start w₂ r) where
-  pub inner_leaf : r ≡ Sifted.Leaf → FiltersInner s place inner levels mask next w p w₂ r
-  inner_leaf e l t a h z i st = go (type l t h z (subst (λ n. Stands s n (type_bytes l t)) (sym i) (second_stands a (type_bytes l t) st)))
+module _ {s : Bytes} {from : Reach} {inner : ℕ} (levels : ℕ) (mask : Bytes) {w w₁ : Bytes} {start : Reach} {w₂ : Bytes} {r : Option Reach}
+    (copy : CopiesTo s from inner w w₁ start) (type : FiltersType s start.at levels false mask start.leaf w₁ start.written w₂ r) where
+  type_filtered : FiltersType s inner levels false mask from.leaf w₁ start.written w₂ r
+  type_filtered = subst (λ y. FiltersType s y.at levels false mask y.leaf w₁ y.written w₂ r) copy.behind type
+
+  pub inner_leaf : {o : Option Reach} → r ≡ None → o ≡ None → FiltersInner s from.at inner levels mask from.leaf w from.written w₂ o
+  inner_leaf {o} e u l t a h z i st = go (type_filtered l t h z (subst (λ n. Stands s n (type_bytes l t)) (sym i) (second_stands a (type_bytes l t) st)))
     where
-      go : TypeSifted s mask l false t inner next w₁ start w₂ r
-          → InnerSifted s mask l a t place next w p w₂ r
-      go (alone x y v d) = alone x y v (filters_undone a (type_bytes l t) st (filters_copied a (record { behind = λ u. i }) put) d)
+      go : TypeSifted s mask l false t inner from.leaf w₁ start.written w₂ r
+          → InnerSifted s mask l a t from.at from.leaf w from.written w₂ o
+      go (alone x y v d) = alone x y u (filters_undone a (type_bytes l t) st (filters_copied a (record { behind = λ u. i }) copy.puts) d)
       go (below ts rest n to x y v d) = let z : ◌≡◌ {A = ℕ} 0 1 = cc in absurd (omega (arith, z))
 
-  pub inner_nested : {reach o : Reach} → r ≡ Sifted.Nested reach → o ≡ unless_nothing p start reach → FiltersInner s place inner levels mask next w p w₂ (Sifted.Nested o)
-  inner_nested {reach} {o} e u l t a h z i st = go (type l t h z (subst (λ n. Stands s n (type_bytes l t)) (sym i) (second_stands a (type_bytes l t) st)))
+  pub inner_nested : {reach o : Reach} → r ≡ Some reach → o ≡ unless_nothing from.written start.written reach → FiltersInner s from.at inner levels mask from.leaf w from.written w₂ (Some o)
+  inner_nested {reach} {o} e u l t a h z i st = go (type_filtered l t h z (subst (λ n. Stands s n (type_bytes l t)) (sym i) (second_stands a (type_bytes l t) st)))
     where
-      go : TypeSifted s mask l false t inner next w₁ start w₂ r
-          → InnerSifted s mask l a t place next w p w₂ (Sifted.Nested o)
+      go : TypeSifted s mask l false t inner from.leaf w₁ start.written w₂ r
+          → InnerSifted s mask l a t from.at from.leaf w from.written w₂ (Some o)
       go (alone x y v d) = let z : ◌≡◌ {A = ℕ} 0 1 = cc in absurd (omega (arith, z))
       go (below ts rest n to x y v d) =
           let same : to ≡ reach = cc in
-          below ts rest n (unless_nothing p start to) x y (ap Sifted.Nested (u ∙ sym (ap (unless_nothing p start) same)))
-          (filters_as refl refl (inner_kept l a ts) (filters_fronted (filters_copied a (record { behind = λ u. i }) put) d))
+          below ts rest n (unless_nothing from.written start.written to) x y (ap Some (u ∙ sym (ap (unless_nothing from.written start.written) same)))
+          (filters_as refl refl (inner_kept l a ts) (filters_fronted (filters_copied a (record { behind = λ u. i }) copy.puts) d))
 
 -- A Dictionary or RunEndEncoded that is looked through
 
-module _ (l : ℕ) (t : DataType (suc l)) (f g : Field l) (a b : Bytes) {s : Bytes} {place next : ℕ} {w : Bytes} {p : ℕ} {w' : Bytes} {r : Sifted}
+module _ (l : ℕ) (t : DataType (suc l)) (f g : Field l) (a b : Bytes) {s : Bytes} {place next : ℕ} {w : Bytes} {p : ℕ} {w' : Bytes} {r : Option Reach}
     (whole : a ++ type_bytes l g.data_type ≡ b) (again : (d : DataType l) → a ++ type_bytes l d ≡ type_bytes (suc l) (with_children t (f ∷ with_data_type g d ∷ []))) where
   -- the bytes a before the second child's type are all else of it
   second_sifted : {model : Filtered (DataType l)} {count : Leaves ℕ} → Sifts s (a ++ type_bytes l g.data_type) (λ d. a ++ type_bytes l d) model count place next w p w' r
@@ -166,7 +170,7 @@ module _ (l : ℕ) (t : DataType (suc l)) (mask : Bytes) where
     choose_false _ _ _ h ∙ choose_true _ _ _ e ∙ ap (leaves_of_second (λ x. type_leaf_count l false x)) k,
   )
 
-sifts_as : {s b : Bytes} {T : Type 0} {f : T → Bytes} {m m' : Filtered T} {c c' : Leaves ℕ} {place next : ℕ} {w : Bytes} {p : ℕ} {w' : Bytes} {r : Sifted} → m ≡ m' → c ≡ c'
+sifts_as : {s b : Bytes} {T : Type 0} {f : T → Bytes} {m m' : Filtered T} {c c' : Leaves ℕ} {place next : ℕ} {w : Bytes} {p : ℕ} {w' : Bytes} {r : Option Reach} → m ≡ m' → c ≡ c'
     → Sifts s b f m' c' place next w p w' r → Sifts s b f m c place next w p w' r
 sifts_as d e (alone x y v k) = alone (d ∙ x) (e ∙ y) v k
 sifts_as d e (below ts rest n to x y v k) = below ts rest n to (d ∙ x) (e ∙ y) v k
@@ -177,7 +181,7 @@ bare_bytes : (l : ℕ) (t : DataType (suc l)) (c : ℕ) → t.code ≡ c → t.p
 unfolding type_bytes
 bare_bytes l t c e p ks k = rw (e, p, k)
 
-module _ {s : Bytes} {place : ℕ} (code levels : ℕ) (mask : Bytes) {next : ℕ} {w : Bytes} {p : ℕ} {w' : Bytes} {r : Sifted} where
+module _ {s : Bytes} {place : ℕ} (code levels : ℕ) (mask : Bytes) {next : ℕ} {w : Bytes} {p : ℕ} {w' : Bytes} {r : Option Reach} where
   -- of a code without parameters, where the bytes of a type are those before the second child's type and that
   encoded : (c : ℕ) {inner : ℕ} → code ≡ c → encodes c ≡ true → ((b : Bytes) → WellFormedParams (layout c).params b → b ≡ [])
       → (front : (l : ℕ) (x v : Field l) → Bytes)
@@ -236,7 +240,7 @@ held_kept l t (k ∷ ks) = rw (ne_eqb (length (k ∷ ks)) 0 λ e. absurd (omega 
 
 module _ {s : Bytes} {place : ℕ} (code levels : ℕ) (mask : Bytes) {next : ℕ} {w : Bytes} {p : ℕ} where
   -- all others are leaves
-  pub others_encoded : (code ≡ Dictionary → ⊥) → (code ≡ RunEndEncoded → ⊥) → FiltersEncoded s place code levels mask next w p w Sifted.Leaf
+  pub others_encoded : (code ≡ Dictionary → ⊥) → (code ≡ RunEndEncoded → ⊥) → FiltersEncoded s place code levels mask next w p w None
   unfolding encodes
   others_encoded a b l t h d n z st =
       let e : encodes t.code ≡ false = ap encodes (sym d) ∙ ap (λ y. y || eqb code RunEndEncoded) (ne_eqb code Dictionary a) ∙ ne_eqb code RunEndEncoded b in
@@ -245,13 +249,13 @@ module _ {s : Bytes} {place : ℕ} (code levels : ℕ) (mask : Bytes) {next : �
 
 module _ {s : Bytes} {place : ℕ} (levels : ℕ) (through : Bool) (mask : Bytes) {next : ℕ} {w : Bytes} {p : ℕ} where
   -- no type is of no level
-  pub no_level : levels ≤ 0 → FiltersType s place levels through mask next w p w Sifted.Leaf
+  pub no_level : levels ≤ 0 → FiltersType s place levels through mask next w p w None
   no_level h zero t k z st = absurd z
   no_level h (suc l) t k z st = absurd (omega (arith, h, k))
 
   module _ {code : ℕ} {test : Bool} (e : code ≡ get_or s place 0) (i : test ≡ holds_fields code) where
     pub type_held : {w' : Bytes} {reach : Reach} → test ≡ true → FiltersNested s place code (levels - 1) mask next w p w' reach
-        → FiltersType s place levels through mask next w p w' (Sifted.Nested reach)
+        → FiltersType s place levels through mask next w p w' (Some reach)
     type_held h g zero t k z st = absurd z
     type_held {w'} {reach} h g (suc l) t k z st =
         let c : code ≡ t.code = e ∙ code_stands l t st in
@@ -262,14 +266,14 @@ module _ {s : Bytes} {place : ℕ} (levels : ℕ) (through : Bool) (mask : Bytes
         (filters_as refl refl (held_kept l t left.kept) (g l t (omega arith) c d z))
 
     -- one was looked through before, and this type holds no fields
-    pub type_leaf : test ≡ false → through ≡ false → FiltersType s place levels through mask next w p w Sifted.Leaf
+    pub type_leaf : test ≡ false → through ≡ false → FiltersType s place levels through mask next w p w None
     type_leaf h j zero t k z st = absurd z
     type_leaf h j (suc l) t k z st =
         let c : code ≡ t.code = e ∙ code_stands l t st in
         let q = plain l t (drop next mask) (sym (ap holds_fields c) ∙ sym i ∙ h) through (ap (λ b. b && encodes t.code) j) in
         alone q.0 q.1 refl filters_none
 
-    pub type_encoded : {w' : Bytes} {r : Sifted} → test ≡ false → through ≡ true → FiltersEncoded s place code (levels - 1) mask next w p w' r
+    pub type_encoded : {w' : Bytes} {r : Option Reach} → test ≡ false → through ≡ true → FiltersEncoded s place code (levels - 1) mask next w p w' r
         → FiltersType s place levels through mask next w p w' r
     type_encoded h j g zero t k z st = absurd z
     type_encoded {w'} {r} h j g (suc l) t k z st =

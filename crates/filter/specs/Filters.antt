@@ -1,6 +1,6 @@
 -- Going over bytes of a sheet and writing down what the filter keeps of them. A walk stands at a place of the sheet, at a leaf, counted
 -- from 0 in the order of the mask's bytes, and at a position in the work buffer.
-use Rattle.std.specs.Prelude.{ℕ, suc, ◌+◌, ◌%◌, ◌≤◌, ◌≡◌, List, [], ◌∷◌, ◌++◌, Bool, true, false, length, drop, get_or, eqb}
+use Rattle.std.specs.Prelude.{ℕ, suc, ◌+◌, ◌%◌, ◌≤◌, ◌≡◌, List, [], ◌∷◌, ◌++◌, Bool, true, false, length, drop, get_or, eqb, Option, None, Some}
 use Rattle.model.specs.Numbers.{max_levels, max_sheet_bytes}
 use Rattle.model.specs.Bytes.{Bytes, choose}
 use Rattle.model.specs.Tree.{Head, DataType, Field, Schema, Children, layout, with_children}
@@ -8,10 +8,10 @@ use Rattle.model.specs.Sheet.{each, part, stands, with_count, column_bytes, fiel
 use Rattle.model.specs.WellFormed.{CountFits, LaidOut, WellFormedSchema}
 use Rattle.model.specs.Datatype.{holds_fields}
 use Rattle.model.specs.Filter.{Filtered, Leaves, filter_each, filter_field, filter_type, field_leaf_count, leaf_count_of_each, type_leaf_count, leaf_count, filter_columns}
+use Rattle.buffer.specs.Puts.{Puts}
 use Rattle.walk.specs.Stands.{Stands, Skips, AllLaidOut}
 use Rattle.filter.specs.declared.Reach.{Reach}
 use Rattle.filter.specs.declared.Row.{Row}
-use Rattle.filter.specs.declared.Sifted.{Sifted}
 
 -- a buffer begins with the bytes x, and p is the position behind them
 pub record Begins (w : Bytes) (p : ℕ) (x : Bytes) : Type 0 where
@@ -42,6 +42,11 @@ pub record Filters (s b : Bytes) (n : ℕ) (k : Bytes) (place next : ℕ) (w : B
 abbrev pub FiltersTo : (s b : Bytes) (n : ℕ) (k : Bytes) (place next : ℕ) (w : Bytes) (p : ℕ) (w' : Bytes) (r : Reach) → Type 0
 FiltersTo s b n k place next w p w' r = Filters s b n k place next w p r.at r.leaf w' r.written
 
+-- what stands up to a place is written as it is, and no leaf is counted in it
+pub record CopiesTo (s : Bytes) (from : Reach) (to : ℕ) (w w' : Bytes) (r : Reach) : Type 0 where
+  pub behind : r ≡ record { at = to; leaf = from.leaf; written = r.written }
+  pub puts : (b : Bytes) → Stands s from.at b → to ≡ from.at + length b → Puts b w from.written w' r.written
+
 -- where nothing was written behind the start, what was written before it is taken back: the position is where that began
 abbrev pub unless_nothing : (from start : ℕ) → Reach → Reach
 unless_nothing from start r = record { at = r.at; leaf = r.leaf; written = choose (eqb r.written start) (λ u. from) λ u. r.written }
@@ -53,19 +58,19 @@ abbrev pub first_bytes : {T : Type 0} → (T → Bytes) → List T → Bytes
 first_bytes f [] = []
 first_bytes f (t ∷ ts) = f t
 
--- What the enum says of what the definition makes of a type, and of its leaf count; b are the type's bytes, and f gives those of what is left.
-pub data Sifts (s b : Bytes) {T : Type 0} (f : T → Bytes) (model : Filtered T) (count : Leaves ℕ) (place next : ℕ) (w : Bytes) (p : ℕ) (w' : Bytes) (r : Sifted) : Type 0 where
-  alone : model ≡ Filtered.leaf → count ≡ Leaves.itself → r ≡ Sifted.Leaf → Filters s [] 0 [] place next w p place next w' p
+-- What the answer says of what the definition makes of a type, and of its leaf count; b are the type's bytes, and f gives those of what is left.
+pub data Sifts (s b : Bytes) {T : Type 0} (f : T → Bytes) (model : Filtered T) (count : Leaves ℕ) (place next : ℕ) (w : Bytes) (p : ℕ) (w' : Bytes) (r : Option Reach) : Type 0 where
+  alone : model ≡ Filtered.leaf → count ≡ Leaves.itself → r ≡ None → Filters s [] 0 [] place next w p place next w' p
       → Sifts s b f model count place next w p w' r
-  below : (ts : List T) (rest : Bytes) (n : ℕ) (reach : Reach) → model ≡ Filtered.nested ts rest → count ≡ Leaves.inside n → r ≡ Sifted.Nested reach
+  below : (ts : List T) (rest : Bytes) (n : ℕ) (reach : Reach) → model ≡ Filtered.nested ts rest → count ≡ Leaves.inside n → r ≡ Some reach
       → FiltersTo s b n (first_bytes f ts) place next w p w' reach
       → Sifts s b f model count place next w p w' r
 
-abbrev pub TypeSifted : (s mask : Bytes) (l : ℕ) (through : Bool) (t : DataType l) (place next : ℕ) (w : Bytes) (p : ℕ) (w' : Bytes) (r : Sifted) → Type 0
+abbrev pub TypeSifted : (s mask : Bytes) (l : ℕ) (through : Bool) (t : DataType l) (place next : ℕ) (w : Bytes) (p : ℕ) (w' : Bytes) (r : Option Reach) → Type 0
 TypeSifted s mask l through t place next w p w' r = Sifts s (type_bytes l t) (type_bytes l) (filter_type l through t (drop next mask)) (type_leaf_count l through t) place next w p w' r
 
 -- bytes before a type are kept where something of it is left
-abbrev pub InnerSifted : (s mask : Bytes) (l : ℕ) (a : Bytes) (t : DataType l) (place next : ℕ) (w : Bytes) (p : ℕ) (w' : Bytes) (r : Sifted) → Type 0
+abbrev pub InnerSifted : (s mask : Bytes) (l : ℕ) (a : Bytes) (t : DataType l) (place next : ℕ) (w : Bytes) (p : ℕ) (w' : Bytes) (r : Option Reach) → Type 0
 InnerSifted s mask l a t place next w p w' r =
     Sifts s (a ++ type_bytes l t) (λ t. a ++ type_bytes l t) (filter_type l false t (drop next mask)) (type_leaf_count l false t) place next w p w' r
 
@@ -124,18 +129,18 @@ HolderFiltered s mask l t place next w p w' r =
 abbrev pub FiltersField : (s : Bytes) (place levels : ℕ) (mask : Bytes) (next : ℕ) (w : Bytes) (p : ℕ) (w' : Bytes) (r : Reach) → Type 0
 FiltersField s place levels mask next w p w' r = (l : ℕ) (f : Field l) → l ≤ levels → LaidOut l f.data_type → FieldFiltered s mask l f place next w p w' r
 
-abbrev pub FiltersType : (s : Bytes) (place levels : ℕ) (through : Bool) (mask : Bytes) (next : ℕ) (w : Bytes) (p : ℕ) (w' : Bytes) (r : Sifted) → Type 0
+abbrev pub FiltersType : (s : Bytes) (place levels : ℕ) (through : Bool) (mask : Bytes) (next : ℕ) (w : Bytes) (p : ℕ) (w' : Bytes) (r : Option Reach) → Type 0
 FiltersType s place levels through mask next w p w' r =
     (l : ℕ) (t : DataType l) → l ≤ levels → LaidOut l t → Stands s place (type_bytes l t) → TypeSifted s mask l through t place next w p w' r
 
 -- a type that holds no fields, whose children are of so many levels, where none was looked through yet
-abbrev pub FiltersEncoded : (s : Bytes) (place code levels : ℕ) (mask : Bytes) (next : ℕ) (w : Bytes) (p : ℕ) (w' : Bytes) (r : Sifted) → Type 0
+abbrev pub FiltersEncoded : (s : Bytes) (place code levels : ℕ) (mask : Bytes) (next : ℕ) (w : Bytes) (p : ℕ) (w' : Bytes) (r : Option Reach) → Type 0
 FiltersEncoded s place code levels mask next w p w' r =
     (l : ℕ) (t : DataType (suc l)) → l ≤ levels → code ≡ t.code → holds_fields code ≡ false → LaidOut (suc l) t → Stands s place (type_bytes (suc l) t)
     → TypeSifted s mask (suc l) true t place next w p w' r
 
 -- a type at a place, and what stands before it from another on
-abbrev pub FiltersInner : (s : Bytes) (place inner levels : ℕ) (mask : Bytes) (next : ℕ) (w : Bytes) (p : ℕ) (w' : Bytes) (r : Sifted) → Type 0
+abbrev pub FiltersInner : (s : Bytes) (place inner levels : ℕ) (mask : Bytes) (next : ℕ) (w : Bytes) (p : ℕ) (w' : Bytes) (r : Option Reach) → Type 0
 FiltersInner s place inner levels mask next w p w' r =
     (l : ℕ) (t : DataType l) (a : Bytes) → l ≤ levels → LaidOut l t → inner ≡ place + length a → Stands s place (a ++ type_bytes l t)
     → InnerSifted s mask l a t place next w p w' r
@@ -160,7 +165,7 @@ FiltersCounted s place before levels mask next w p w' r =
 abbrev pub FiltersRow : (s : Bytes) (place count before levels : ℕ) (mask : Bytes) (next : ℕ) (w : Bytes) (p : ℕ) (w' : Bytes) (r : Row) → Type 0
 FiltersRow s place count before levels mask next w p w' r =
     (l : ℕ) (front : Head → Bytes) (ks : List (Field l)) → ((h : Head) → length (front h) ≡ before) → l ≤ levels → length ks ≡ count → AllLaidOut l ks
-    → ChildrenFiltered s mask l front ks place next w p 0 r.at r.leaf w' r.written r.kept
+    → ChildrenFiltered s mask l front ks place next w p 0 r.reach.at r.reach.leaf w' r.reach.written r.kept
 
 abbrev pub FiltersChild : (s : Bytes) (place before levels : ℕ) (mask : Bytes) (next : ℕ) (w : Bytes) (p : ℕ) (w' : Bytes) (r : Reach) → Type 0
 FiltersChild s place before levels mask next w p w' r =

@@ -13,9 +13,12 @@ use Rattle.model.specs.Bytes.{Bytes, AreBytes}
 use Rattle.model.specs.Call.{Exit, zeros, merge_call}
 use Rattle.model.specs.Program.{line_of, program_line}
 use Rattle.model.proofs.Gives.{choose_true, choose_false}
-use Rattle.buffer.specs.declared.Outcome.{Outcome}
+use Rattle.std.specs.Prelude.{Result, Err}
+use Rattle.buffer.specs.declared.refusal.Number.{Number}
+use Rattle.buffer.specs.declared.refusal.Refusal.{Refusal}
+use Rattle.buffer.specs.Refusals.{without_place}
 use Rattle.buffer.specs.Puts.{Puts}
-use Rattle.buffer.specs.Leaves.{leaves, refused_with}
+use Rattle.buffer.specs.Leaves.{leaves}
 use Rattle.buffer.proofs.Ends.{leaves_refusal}
 use Rattle.buffer.proofs.Pasted.{pasted_zero}
 use Rattle.buffer.proofs.Puts.{puts_same}
@@ -24,15 +27,15 @@ use Rattle.line.proofs.Lengths.{program_line_length}
 
 module _ {w w' : Bytes} {p q : ℕ} where
   -- the line for what a call left is that for the call
-  pub line_as : (o : Outcome) (answer work : Bytes) {x : Exit} → leaves o answer work ≡ x
-      → ((work : Bytes) → Puts (line_of (leaves o answer work)) w p w' q) → Puts (line_of x) w p w' q
-  line_as o answer work e f = puts_same (ap line_of e) (f work)
+  pub line_as : (r : Result ℕ Refusal) (answer work : Bytes) {x : Exit} → leaves r answer work ≡ x
+      → ((work : Bytes) → Puts (line_of (leaves r answer work)) w p w' q) → Puts (line_of x) w p w' q
+  line_as r answer work e f = puts_same (ap line_of e) (f work)
 
-  pub too_long : (parked : Bool) (input : Bytes) (o : Outcome) → max_program_bytes < length input → o ≡ refused_with input_too_long 0
-      → ((work : Bytes) → Puts (line_of (leaves o [] work)) w p w' q) → Puts (program_line parked input) w p w' q
+  pub too_long : (parked : Bool) (input : Bytes) (x : Refusal) → max_program_bytes < length input → x ≡ without_place Number.InputTooLong
+      → ((work : Bytes) → Puts (line_of (leaves (Err x) [] work)) w p w' q) → Puts (program_line parked input) w p w' q
   unfolding program_line
-  too_long parked input o h e f =
-      puts_same (sym (choose_true _ _ _ (lt-ltb max_program_bytes (length input) h))) (line_as o [] [] (leaves_refusal input_too_long 0 [] [] e) f)
+  too_long parked input x h e f =
+      puts_same (sym (choose_true _ _ _ (lt-ltb max_program_bytes (length input) h))) (line_as (Err x) [] [] (leaves_refusal _ [] [] (ap Err e)) f)
 
   pub not_too_long : (parked : Bool) (input : Bytes) → length input ≤ max_program_bytes
       → Puts (line_of (merge_call parked input (zeros (work_bytes_per_sheet_byte * max_program_bytes)) (zeros max_sheet_bytes))) w p w' q → Puts (program_line parked input) w p w' q

@@ -13,12 +13,10 @@ ghost use Rattle.buffer.specs.Puts.{Puts};
 ghost use Rattle.buffer.specs.Leaves.{leaves};
 ghost use Rattle.line.specs.Prints.{Prints};
 
-use buffer::Outcome;
+use buffer::{Number, Outcome, Refusal};
 
 // "program input above 16,000 bytes"
 pub const MAX_PROGRAM_BYTES: usize = 16000;
-
-const INPUT_TOO_LONG: u8 = 35;
 
 // The work buffer that the longest input asks for.
 const WORK_BYTES: usize = buffer::WORK_BYTES_PER_SHEET_BYTE * MAX_PROGRAM_BYTES;
@@ -26,80 +24,46 @@ const WORK_BYTES: usize = buffer::WORK_BYTES_PER_SHEET_BYTE * MAX_PROGRAM_BYTES;
 // The longest line: `0 0 `, two digits for each byte of an answer that is as long as the longest input, and the line feed.
 pub const MAX_LINE_BYTES: usize = 4 + 2 * MAX_PROGRAM_BYTES + 1;
 
-// A number below 2^64 has no more digits.
-const MAX_DIGITS: usize = 20;
-
-// A number in decimal, of at most so many digits: those before the last one first.
-fn put_digits(dst: &mut [u8], at: usize, n: usize, digits: usize) -> usize
-    ensures { Puts (decimal_of digits n) dst.old at dst.new result }
-{
-    if digits == 0 {
-        return at;
-    }
-    if n < 10 {
-        return buffer::put_one(dst, at, b'0' + n as u8);
-    }
-    let before_last = put_digits(dst, at, n / 10, digits - 1);
-    buffer::put_one(dst, before_last, b'0' + (n % 10) as u8)
-}
-
 // A number in decimal, with no zero in front.
 pub fn put_decimal(dst: &mut [u8], at: usize, n: usize) -> usize
     ensures { Puts (decimal n) dst.old at dst.new result }
 {
-    put_digits(dst, at, n, MAX_DIGITS)
-}
-
-// A digit of lower-case hex.
-fn hex_digit(d: u8) -> u8
-    requires { d < 16 }
-    ensures { result ≡ hex_digit d }
-{
-    if d < 10 {
-        return b'0' + d;
-    }
-    b'a' + (d - 10)
+    let mut digits = itoa::Buffer::new();
+    buffer::put(dst, at, digits.format(n).as_bytes())
 }
 
 // Bytes in lower-case hex: two digits each, the higher one first.
 pub fn put_hex(dst: &mut [u8], at: usize, bytes: &[u8]) -> usize
     ensures { Puts (each hex_byte bytes.now) dst.old at dst.new result }
 {
-    let mut end = at;
-    let mut i = 0;
-    while i < bytes.len() {
-        let b = bytes[i];
-        let pair = [hex_digit(b / 16), hex_digit(b % 16)];
-        end = buffer::put(dst, end, &pair);
-        i += 1;
+    let end = at.saturating_add(2 * bytes.len());
+    if end <= dst.len() {
+        let _ = hex::encode_to_slice(bytes, &mut dst[at..end]);
     }
     end
 }
 
-// "the answer in lower-case hex or `-`": of its buffer the answer is as many bytes as the outcome says; a refusal has none. Where the
-// outcome says more than the buffer has, all of it is taken. The call's work buffer has no part in it, so the promise holds for each.
-fn put_answer(dst: &mut [u8], at: usize, outcome: Outcome, answer: &[u8]) -> usize
-    ensures { (work : Bytes) → Puts (hex_or_minus (leaves outcome answer.now work)) dst.old at dst.new result }
+// "the answer in lower-case hex or `-`": of its buffer the answer is as many bytes as the call says; a refusal has none. Where the call says
+// more than the buffer has, all of it is taken. The call's work buffer has no part in it, so the promise holds for each.
+fn put_answer(dst: &mut [u8], at: usize, answered: Result<usize, Refusal>, answer: &[u8]) -> usize
+    ensures { (work : Bytes) → Puts (hex_or_minus (leaves answered answer.now work)) dst.old at dst.new result }
 {
-    if outcome.number != Outcome::ACCEPTED {
-        return buffer::put_one(dst, at, b'-');
+    match answered {
+        Ok(length) => put_hex(dst, at, &answer[..length.min(answer.len())]),
+        Err(_) => buffer::put_one(dst, at, b'-'),
     }
-    let length = outcome.length;
-    if answer.len() <= length {
-        return put_hex(dst, at, answer);
-    }
-    put_hex(dst, at, &answer[..length])
 }
 
-// The line for what a call gave, and what it left in its answer buffer.
-pub fn put_line(dst: &mut [u8], outcome: Outcome, answer: &[u8]) -> usize
-    ensures { (work : Bytes) → Puts (line_of (leaves outcome answer.now work)) dst.old 0 dst.new result }
+// The line for what a call answered, and what it left in its answer buffer.
+pub fn put_line(dst: &mut [u8], answered: Result<usize, Refusal>, answer: &[u8]) -> usize
+    ensures { (work : Bytes) → Puts (line_of (leaves answered answer.now work)) dst.old 0 dst.new result }
 {
-    let number = put_decimal(dst, 0, outcome.number as usize);
+    let outcome = Outcome::from(answered);
+    let number = put_decimal(dst, 0, usize::from(outcome.number));
     let space = buffer::put_one(dst, number, b' ');
     let place = put_decimal(dst, space, outcome.place);
     let second_space = buffer::put_one(dst, place, b' ');
-    let shown = put_answer(dst, second_space, outcome, answer);
+    let shown = put_answer(dst, second_space, answered, answer);
     buffer::put_one(dst, shown, b'\n')
 }
 
@@ -109,8 +73,8 @@ fn put_merged(dst: &mut [u8], train: &[u8], parked: bool) -> usize
 {
     let mut work = [0u8; WORK_BYTES];
     let mut answer = [0u8; buffer::MAX_ANSWER_BYTES];
-    let outcome = try_merge::merge(train, &mut work, &mut answer, parked);
-    put_line(dst, outcome, &answer)
+    let answered = try_merge::merge(train, &mut work, &mut answer, parked);
+    put_line(dst, answered, &answer)
 }
 
 // All that the program prints for what it has read: 35 for more than 16,000 bytes, whatever they are, or the merge of the train.
@@ -118,8 +82,7 @@ fn put_program_line(dst: &mut [u8], input: &[u8], parked: bool) -> usize
     ensures { Puts (program_line parked input.now) dst.old 0 dst.new result }
 {
     if MAX_PROGRAM_BYTES < input.len() {
-        let none = [0u8; 0];
-        return put_line(dst, Outcome::refused(INPUT_TOO_LONG, 0), &none);
+        return put_line(dst, Err(Refusal::from(Number::InputTooLong)), &[]);
     }
     put_merged(dst, input, parked)
 }

@@ -1,5 +1,5 @@
 -- One child into a row of children, and one after the other.
-use Prim.Native.Nat.{ℕ, ◌+◌, ◌*◌, ◌-◌, ◌≤◌, ◌<◌}
+use Prim.Native.Nat.{ℕ, ◌+◌, ◌*◌, ◌≤◌, ◌<◌}
 use native.Mathlib.Omega.{arith}
 use mathlib.Core.Path.{◌≡◌, refl, sym, ap, subst, ◌∙◌}
 use mathlib.Core.List.{List, [], ◌∷◌, ◌++◌, append_assoc}
@@ -8,6 +8,7 @@ use lib.ListN.{length, length-append}
 use lib.Dec.{eqb}
 use Rattle.model.specs.Bytes.{Bytes, choose}
 use Rattle.model.specs.Numbers.{equal_child_clash}
+use Rattle.buffer.specs.declared.refusal.Number.{Number}
 use Rattle.model.specs.Tree.{FieldOver, Field}
 use Rattle.model.specs.Sheet.{each}
 use Rattle.model.specs.Equal.{same_field, same_type}
@@ -18,8 +19,8 @@ use Rattle.walk.specs.Stands.{Stands, member_bytes}
 use Rattle.table.specs.Held.{Held}
 use Rattle.table.specs.Table.{u24, no_place}
 use Rattle.table.specs.Edits.{InsertsPlace}
-use Rattle.table.specs.declared.Merged.{Merged}
-use Rattle.table.specs.declared.Merged.TheVariants.{Used, Clash}
+use Rattle.table.specs.Says.{Merged}
+use Rattle.std.proofs.Common.{Ok, Err}
 use Rattle.table.proofs.Held.{held_length, held_stands, held_as}
 use Rattle.table.proofs.Numbers.{length_u24}
 use Rattle.table.proofs.Places.{length_each_place, refer_length, places_none, places_front, places_join}
@@ -67,7 +68,7 @@ module _ {levels : ℕ} {s w : Bytes} {used row q : ℕ} {m : Match} (find : Fin
       subst (Outcome (same_type l) f ks row) (sym (find l f i st v k y ks p.places p.whole (held_stands h hx)) ∙ e) (outcome (same_type l) f ks row)
 
   -- the equal child has the id
-  pub merge_there : m ≡ SameId → MergesMember levels s w used row q w (Used used)
+  pub merge_there : m ≡ SameId → MergesMember levels s w used row q w (Ok used)
   merge_there e l i = record {
     says = λ x y z k ks f h hx p st v small room. record {
       value = ks;
@@ -81,11 +82,11 @@ module _ {levels : ℕ} {s w : Bytes} {used row q : ℕ} {m : Match} (find : Fin
   }
 
   -- it has another
-  pub merge_clash : m ≡ OtherId → MergesMember levels s w used row q w (Clash equal_child_clash)
+  pub merge_clash : m ≡ OtherId → MergesMember levels s w used row q w (Err Number.EqualChildClash)
   merge_clash e l i = record { says = λ x y z k ks f h hx p st v small room. told l ks f i h hx p st v OtherId e }
 
   -- no child is equal: the place goes before the mark
-  pub merge_new : {end u : ℕ} {w' : Bytes} → m ≡ Missing end → InsertsPlace w used end q w' u → MergesMember levels s w used row q w' (Used u)
+  pub merge_new : {end u : ℕ} {w' : Bytes} → m ≡ Missing end → InsertsPlace w used end q w' u → MergesMember levels s w used row q w' (Ok u)
   merge_new {end} {u} {w'} e ins l i = record {
     says = λ x y z k ks f h hx p st v small room.
         let t = told l ks f i h hx p st v (Missing end) e in
@@ -113,10 +114,10 @@ abbrev pub Merging : (levels : ℕ) (s w₀ w : Bytes) (used row q count end pla
 Merging levels s w₀ w used row q count end place left =
     Pouring (λ l. merge_child (same_type l)) member_bytes WholeChild levels s row (λ l. Members l s) (MergesMembers levels s w₀ used row q count) (λ l. Members l s) w₀ w end place left
 
-pub merging_begin : {levels : ℕ} {s w : Bytes} (used row q count : ℕ) → Merging levels s w w used row q count used q count
-merging_begin used row q count = record {
+pub merging_begin : {levels : ℕ} {s w : Bytes} (used row q count : ℕ) {left : ℕ} → left ≡ count → Merging levels s w w used row q count used q left
+merging_begin used row q count e = record {
   same = refl;
-  rest = λ w' r m l low. record { says = λ x y z k a bs h hx p st v n small. m l bs low small v n st x y z k a h hx p };
+  rest = λ w' r m l low. record { says = λ x y z k a bs h hx p st v n small. m l bs low small v (n ∙ sym e) st x y z k a h hx p };
 }
 
 module _ {levels : ℕ} {s w₀ w : Bytes} {used row q count end place left : ℕ} (t : Merging levels s w₀ w used row q count end place left) where
@@ -124,11 +125,11 @@ module _ {levels : ℕ} {s w₀ w : Bytes} {used row q count end place left : �
     one : One (λ l. merge_child (same_type l)) member_bytes WholeChild levels s row (λ l. Members l s) (λ l. Members l s) w end place w' r
     one l f low small v st x y z k a h hx p = (merges.1 l low).says x y z k a f h hx p st v (omega (arith, st.inside, small))
 
-    pub merging_again : {next place' : ℕ} → r ≡ Used next → SkipsMember s place levels place' → Merging levels s w₀ w' used row q count next place' (left - 1)
-    merging_again e skips = pouring_again _ _ _ _ _ _ _ t (λ l. Members l s) more merges.0 one e skips
+    pub merging_again : {next place' left' : ℕ} → r ≡ Ok next → SkipsMember s place levels place' → left ≡ left' + 1 → Merging levels s w₀ w' used row q count next place' left'
+    merging_again e skips less = pouring_again _ _ _ _ _ _ _ t (λ l. Members l s) more merges.0 one e skips less
 
-    pub merging_stop : {c : ℕ} → r ≡ Clash c → (length w' ≡ length w₀) × MergesMembers levels s w₀ used row q count w' r
+    pub merging_stop : {c : Number} → r ≡ Err c → (length w' ≡ length w₀) × MergesMembers levels s w₀ used row q count w' r
     merging_stop e = pouring_stop _ _ _ _ _ _ _ t (λ l. Members l s) more merges.0 one e
 
-  pub merging_done : left ≤ 0 → (length w ≡ length w₀) × MergesMembers levels s w₀ used row q count w (Used end)
+  pub merging_done : left ≤ 0 → (length w ≡ length w₀) × MergesMembers levels s w₀ used row q count w (Ok end)
   merging_done none = pouring_done _ _ _ _ _ _ _ t (λ l k y a p. p) none

@@ -125,13 +125,13 @@ not_union : (c : ℕ) → (c ≡ List') ⊎ (c ≡ LargeList) → c ≡ Union �
 not_union c (inl i) e = omega (arith, i, e)
 not_union c (inr i) e = omega (arith, i, e)
 
-module _ {levels : ℕ} {s w : Bytes} {used place n : ℕ} (e : n ≡ get_or w place 0) where
+module _ {levels : ℕ} {s w : Bytes} {used place : ℕ} where
   -- it is open
-  pub union_open : n ≡ open_union → (length w ≡ length w) × OpensUnion levels s w used place w used
+  pub union_open : (get_or w place 0 ≡ raw → ⊥) → (length w ≡ length w) × OpensUnion levels s w used place w used
   union_open o = (refl, go)
     where
       go : OpensUnion levels s w used place w used
-      go l first h small x y z k t held hx (spell_raw i b r v, d) room = absurd (omega (arith, o, e, byte_stands (subst (Stands w place) b (held_stands held hx))))
+      go l first h small x y z k t held hx (spell_raw i b r v, d) room = absurd (o (byte_stands (subst (Stands w place) b (held_stands held hx))))
       go l first h small x y z k t held hx (spell_struct i m ys b q g c p r v, d) room = absurd (omega (arith, c, d))
       go l first h small x y z k t held hx (spell_list i m ys f b q g c p r v u, d) room = absurd (not_union t.code c d)
       go l first h small x y z k t held hx (spell_union i m ys b q g c p r v u, d) room = record {
@@ -147,7 +147,7 @@ module _ {levels : ℕ} {s w : Bytes} {used place n : ℕ} (e : n ≡ get_or w p
       }
 
   -- it is raw
-  pub union_opened : {w' : Bytes} {m own r : ℕ} → (n ≡ open_union → ⊥) → Ahead w place 1 m → own ≡ three w m → (length w' ≡ length w) × OpensRaw levels s w used place own w' r
+  pub union_opened : {w' : Bytes} {m own r : ℕ} → (get_or w place 0 ≡ open_union → ⊥) → Ahead w place 1 m → own ≡ three w m → (length w' ≡ length w) × OpensRaw levels s w used place own w' r
       → (length w' ≡ length w) × OpensUnion levels s w used place w' r
   union_opened {w'} {m} {own} {r} never a i opens = (opens.0, go)
     where
@@ -158,4 +158,4 @@ module _ {levels : ℕ} {s w : Bytes} {used place n : ℕ} (e : n ≡ get_or w p
           opens.1 l k t x z h small d (subst (λ n. RawAt (suc l) s k n t) (sym there) ra) (subst (λ n. Held w used x (raw ∷ u24 n) z) (sym there) held2) hx room
       go l first h small x y z k t held hx (spell_struct j m ys b q g c p r v, d) room = absurd (omega (arith, c, d))
       go l first h small x y z k t held hx (spell_list j m ys f b q g c p r v u, d) room = absurd (not_union t.code c d)
-      go l first h small x y z k t held hx (spell_union j m ys b q g c p r v u, d) room = absurd (never (e ∙ byte_stands (subst (Stands w place) b (held_stands held hx))))
+      go l first h small x y z k t held hx (spell_union j m ys b q g c p r v u, d) room = absurd (never (byte_stands (subst (Stands w place) b (held_stands held hx))))

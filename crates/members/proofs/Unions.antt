@@ -12,14 +12,14 @@ use Rattle.model.specs.Sheet.{each, type_bytes}
 use Rattle.model.specs.Equal.{same_type}
 use Rattle.model.specs.Merge as model
 use Rattle.model.specs.Merge.{need, ◌>>=◌, pour, merge_child, ids_differ, is_null, merge_type, merge_same_code}
+use Rattle.buffer.specs.declared.refusal.Number.{Number}
 use Rattle.walk.specs.Stands.{member_bytes}
 use Rattle.walk.proofs.Parts.{Ahead}
 use Rattle.table.specs.Held.{Held}
 use Rattle.table.specs.Table.{open_union, u24, spell_union, SpellType}
-use Rattle.table.specs.Says.{Took, Says}
+use Rattle.table.specs.Says.{Merged, Says, Took}
 use Rattle.table.specs.Becomes.{IncomingType, Coded}
-use Rattle.table.specs.declared.Merged.{Merged}
-use Rattle.table.specs.declared.Merged.TheVariants.{Used, Clash}
+use Rattle.std.proofs.Common.{Ok, Err}
 use Rattle.table.proofs.Held.{held_stands, held_as}
 use Rattle.table.proofs.Numbers.{length_u24}
 use Rattle.table.proofs.Opening.{inner_is}
@@ -71,7 +71,7 @@ module _ {levels : ℕ} {s w w₁ w₂ : Bytes} {used place t end row n first : 
   from_children l b u e = ap (λ m. m >>= λ ks. need (ids_differ ks) type_id_clash (with_children b ks)) e
 
   -- a clash of a child
-  pub union_stop : {c : ℕ} → r ≡ Clash c → (length w₂ ≡ length w) × MergesUnion levels s w used place t w₂ r
+  pub union_stop : {c : Number} → r ≡ Err c → (length w₂ ≡ length w) × MergesUnion levels s w used place t w₂ r
   unfolding ◌>>=◌
   union_stop {c} e = (
     size,
@@ -81,7 +81,7 @@ module _ {levels : ℕ} {s w w₁ w₂ : Bytes} {used place t end row n first : 
         (from_children l b u (answered l p e)),
   )
 
-  module _ {next : ℕ} (e : r ≡ Used next) {d : Bool} (tells : TellsIds s w₂ row d) where
+  module _ {next : ℕ} (e : r ≡ Ok next) {d : Bool} (tells : TellsIds s w₂ row d) where
     -- the verdict on their ids is the union's
     by_ids : (l : ℕ) {j : ℕ} {x z : Bytes} (b u : DataType (suc l)) → row ≡ length x → (o : Took (Members l s) j x z w₂ next (pour (merge_child (same_type l)) b.children u.children))
         → merge_union l b u ≡ need d type_id_clash (with_children b o.value)
@@ -91,7 +91,7 @@ module _ {levels : ℕ} {s w w₁ w₂ : Bytes} {used place t end row n first : 
         ∙ ap (λ d. need d type_id_clash (with_children b o.value)) (sym (tells l o.room o.spelt o.value o.spells.places (held_stands o.held i)))
 
     -- they differ
-    pub union_done : d ≡ true → (length w₂ ≡ length w) × MergesUnion levels s w used place t w₂ (Used next)
+    pub union_done : d ≡ true → (length w₂ ≡ length w) × MergesUnion levels s w used place t w₂ (Ok next)
     unfolding need
     union_done g = (
       size,
@@ -110,7 +110,7 @@ module _ {levels : ℕ} {s w w₁ w₂ : Bytes} {used place t end row n first : 
     )
 
     -- an id is there twice
-    pub union_clash : d ≡ false → (length w₂ ≡ length w) × MergesUnion levels s w used place t w₂ (Clash type_id_clash)
+    pub union_clash : d ≡ false → (length w₂ ≡ length w) × MergesUnion levels s w used place t w₂ (Err Number.TypeIdClash)
     unfolding need
     union_clash g = (
       size,

@@ -14,7 +14,7 @@ use Rattle.table.specs.Held.{Held}
 use Rattle.table.specs.Table.{no_place, raw, open_union, u24, Refer, Places, RawAt, SpellType}
 use Rattle.table.specs.Pours.{MergesOne, MergesMany}
 use Rattle.table.specs.Becomes.{IncomingType, Becomes, Coded}
-use Rattle.table.specs.declared.Merged.{Merged}
+use Rattle.table.specs.Says.{Merged}
 use Rattle.members.specs.declared.Match.{Match}
 use Rattle.members.specs.Rows.{WholeChild, Members, ChildrenAt, first_equal}
 

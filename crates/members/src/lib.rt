@@ -8,13 +8,9 @@ ghost use Rattle.std.specs.Prelude.{◌≡◌, length, get_or, eqb};
 ghost use Rattle.members.specs.Rows.{by_id};
 ghost use Rattle.members.specs.Claims.{SameMembers, SkipsMember, FindsChildren, FindsMember, FindsId, TellsIds, MergesMember, MergesMembers, InsertsMembers, OpensRaw, OpensUnion, MergesUnion};
 
-use table::Merged;
-
-const OPEN_UNION: usize = 3;
-
-const EQUAL_CHILD_CLASH: u8 = 23;
-
-const TYPE_ID_CLASH: u8 = 24;
+use buffer::Number;
+use table::{Kind, PlaceRow};
+use walk::Elements;
 
 // What the search for an equal child ends with: the first one has the id of the child that comes in, or another; or where the row ends.
 #[derive(Clone, Copy)]
@@ -47,18 +43,11 @@ fn by_id(s: &[u8], a: usize, b: usize) -> Match
 fn find_member(s: &[u8], w: &[u8], row: usize, q: usize, levels: usize) -> Match
     ensures { FindsMember levels s.now w.now row q result }
 {
-    let mut place = row;
-    while place < w.len() {
-        let there = table::three(w, place);
-        if there == table::NO_PLACE {
-            return Match::Missing(place);
-        }
-        if same_member(s, q, there, levels) {
-            return by_id(s, there, q);
-        }
-        place += 3;
+    let mut children = PlaceRow::new(w, row);
+    match children.find(|there| same_member(s, q, *there, levels)) {
+        Some(there) => by_id(s, there, q),
+        None => Match::Missing(children.at),
     }
-    Match::Missing(place)
 }
 
 // "each newcomer is matched to the first equal child so far", which must have its id; one that is equal to none goes behind them all.
@@ -69,14 +58,14 @@ pub fn merge_member(
     at: usize,
     q: usize,
     levels: usize,
-) -> Merged
+) -> Result<usize, Number>
     ensures { (length w.new ≡ length w.old) × MergesMember levels s.now w.old used at q w.new result }
 {
     let found = find_member(s, w, at, q, levels);
     match found {
-        Match::SameId => Merged::Used(used),
-        Match::OtherId => Merged::Clash(EQUAL_CHILD_CLASH),
-        Match::Missing(end) => Merged::Used(table::insert_place(w, used, end, q)),
+        Match::SameId => Ok(used),
+        Match::OtherId => Err(Number::EqualChildClash),
+        Match::Missing(end) => Ok(table::insert_place(w, used, end, q)),
     }
 }
 
@@ -87,108 +76,76 @@ fn skip_member(s: &[u8], at: usize, levels: usize) -> usize
     walk::skip_field(s, walk::ahead(s, at, 1), levels)
 }
 
-// So many children of the train, one behind the other, into a row of children: the loop of `UnionFields::try_merge`.
+// Children of the train, one behind the other, into a row of children: the loop of `UnionFields::try_merge`.
 pub fn merge_members(
     s: &[u8],
     w: &mut [u8],
     used: usize,
     at: usize,
-    q: usize,
-    count: usize,
+    new: Elements,
     levels: usize,
-) -> Merged
-    ensures { (length w.new ≡ length w.old) × MergesMembers levels s.now w.old used at q count w.new result }
+) -> Result<usize, Number>
+    ensures { (length w.new ≡ length w.old) × MergesMembers levels s.now w.old used at new.at new.count w.new result }
 {
-    let mut place = q;
-    let mut left = count;
+    let mut place = new.at;
     let mut end = used;
-    while 0 < left {
+    for _ in 0..new.count {
         let merged = merge_member(s, w, end, at, place, levels);
-        let Merged::Used(next) = merged else {
+        let Ok(next) = merged else {
             return merged;
         };
         end = next;
         place = skip_member(s, place, levels);
-        left -= 1;
     }
-    Merged::Used(end)
+    Ok(end)
 }
 
 // Whether a child of a row has this id.
-fn has_id(s: &[u8], w: &[u8], row: usize, id: usize) -> bool
-    ensures { FindsId s.now w.now row id result }
+fn has_id(s: &[u8], mut row: PlaceRow<'_>, id: usize) -> bool
+    ensures { FindsId s.now row.entry.w.now row.entry.at id result }
 {
-    let mut place = row;
-    while place < w.len() {
-        let there = table::three(w, place);
-        if there == table::NO_PLACE {
-            return false;
-        }
-        if id == walk::byte(s, there) {
-            return true;
-        }
-        place += 3;
-    }
-    false
+    row.any(|there| id == walk::byte(s, there))
 }
 
-// `UnionFields::try_new` at its end: no id twice. Ids are bytes and of 257 children two have one id, so there are at most 256 turns.
+// `UnionFields::try_new` at its end: no id twice, so none that one behind has too. Ids are bytes and of 257 children two have one id, so there
+// are at most 256 turns.
 pub fn ids_differ(s: &[u8], w: &[u8], row: usize) -> bool
     ensures { TellsIds s.now w.now row result }
 {
-    let mut place = row;
-    while place < w.len() {
-        let there = table::three(w, place);
-        if there == table::NO_PLACE {
-            return true;
-        }
-        if has_id(s, w, place + 3, walk::byte(s, there)) {
+    let mut behind = PlaceRow::new(w, row);
+    while let Some(there) = behind.next() {
+        if has_id(s, behind, walk::byte(s, there)) {
             return false;
         }
-        place += 3;
     }
     true
 }
 
-// The number of a union's children and the place of the first, where the union stands at a place of the train.
-#[derive(Clone, Copy)]
-struct Children {
-    count: usize,
-    at: usize,
-}
-
-// The children of a union stand behind its code, its mode and their count.
-fn find_children(s: &[u8], t: usize) -> Children
+// The children of a union that stands at a place of the train: behind its code, its mode and their count.
+fn find_children(s: &[u8], t: usize) -> Elements
     ensures { FindsChildren s.now t result.count result.at }
 {
-    let place = walk::ahead(s, t, 2);
-    Children {
-        count: walk::two(s, place),
-        at: walk::ahead(s, place, 2),
-    }
+    Elements::counted(s, walk::ahead(s, t, 2))
 }
 
-// Puts in the places of so many children of the train that stand one behind the other.
+// Puts in the places of children of the train, which stand one behind the other.
 fn insert_members(
     s: &[u8],
     w: &mut [u8],
     used: usize,
     at: usize,
-    q: usize,
-    count: usize,
+    children: Elements,
     levels: usize,
 ) -> usize
-    ensures { (length w.new ≡ length w.old) × InsertsMembers levels s.now w.old used at q count w.new result }
+    ensures { (length w.new ≡ length w.old) × InsertsMembers levels s.now w.old used at children.at children.count w.new result }
 {
-    let mut place = q;
+    let mut place = children.at;
     let mut row = at;
     let mut end = used;
-    let mut i = 0;
-    while i < count {
+    for _ in 0..children.count {
         end = table::insert_place(w, end, row, place);
         row = walk::ahead(w, row, 3);
         place = skip_member(s, place, levels);
-        i += 1;
     }
     end
 }
@@ -198,19 +155,17 @@ fn open_raw(s: &[u8], w: &mut [u8], used: usize, at: usize, own: usize, levels: 
     ensures { (length w.new ≡ length w.old) × OpensRaw levels s.now w.old used at own w.new result }
 {
     let children = find_children(s, own);
-    let first = children.at;
-    let count = children.count;
-    table::set_byte(w, used, at, OPEN_UNION);
+    table::set_byte(w, used, at, Kind::OpenUnion as usize);
     let row = walk::ahead(w, at, 4);
     let end = table::insert_place(w, used, row, table::NO_PLACE);
-    insert_members(s, w, end, row, first, count, levels)
+    insert_members(s, w, end, row, children, levels)
 }
 
 // A union of the table is opened, if it is raw.
 fn open_union(s: &[u8], w: &mut [u8], used: usize, at: usize, levels: usize) -> usize
     ensures { (length w.new ≡ length w.old) × OpensUnion levels s.now w.old used at w.new result }
 {
-    if walk::byte(w, at) == OPEN_UNION {
+    if table::kind_at(w, at) == Kind::OpenUnion {
         return used;
     }
     let own = table::three(w, walk::ahead(w, at, 1));
@@ -225,18 +180,18 @@ pub fn merge_union(
     at: usize,
     t: usize,
     levels: usize,
-) -> Merged
+) -> Result<usize, Number>
     ensures { (length w.new ≡ length w.old) × MergesUnion levels s.now w.old used at t w.new result }
 {
     let end = open_union(s, w, used, at, levels);
     let row = walk::ahead(w, at, 4);
     let children = find_children(s, t);
-    let merged = merge_members(s, w, end, row, children.at, children.count, levels);
-    let Merged::Used(next) = merged else {
+    let merged = merge_members(s, w, end, row, children, levels);
+    let Ok(next) = merged else {
         return merged;
     };
     if ids_differ(s, w, row) {
-        return Merged::Used(next);
+        return Ok(next);
     }
-    Merged::Clash(TYPE_ID_CLASH)
+    Err(Number::TypeIdClash)
 }

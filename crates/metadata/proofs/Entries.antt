@@ -3,7 +3,7 @@ use Prim.Native.Nat.{ℕ, ◌+◌, ◌*◌, ◌/◌, ◌%◌, ◌≤◌, ◌<◌
 use native.Mathlib.Omega.{arith}
 use mathlib.Core.Path.{◌≡◌, refl, sym, ap, subst, ◌∙◌}
 use mathlib.Core.List.{[], ◌∷◌, ◌++◌}
-use mathlib.Core.Bool.{Bool, true, false, false≢true}
+use mathlib.Core.Bool.{Bool, true, false≢true}
 use lib.ListN.{length, get_or}
 use lib.Dec.{eqb}
 use borrow.Author.Tests.{eq-eqb, eqb-true}
@@ -82,9 +82,6 @@ module _ (l : ℕ) {s : Bytes} {k : ℕ} {y : Bytes} {f : Field l} (e : SpellFie
 abbrev pub HasMetadata : Bytes → Bytes → ℕ → ℕ → Bool → Type 0
 HasMetadata s w place q r =
     (l k : ℕ) (y : Bytes) (f : Field l) (h : Head) → SpellField l s k y f → Stands w place y → Stands s q (head_bytes h) → r ≡ true → f.head.metadata ≡ h.metadata
-
-pub has_not : {s w : Bytes} {place q : ℕ} → HasMetadata s w place q false
-has_not l k y f h e st u i = absurd (false≢true i)
 
 pub has_same : {s w : Bytes} {place q n m t : ℕ} {r : Bool} → n ≡ get_or w place 0 → (n / 4 ≡ 1 → ⊥) → Ahead w place 1 m → t ≡ three w m → SameMetadata s t q r → HasMetadata s w place q r
 has_same i never a j v l k y f h e st u true' =

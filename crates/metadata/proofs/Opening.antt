@@ -15,15 +15,18 @@ use Rattle.model.specs.Merge.{Merged, done, clash, ◌>>=◌, merge_pair, merge_
 use Rattle.model.specs.WellFormed.{Each, WellFormedPair}
 use Rattle.model.proofs.Gives.{Gives, value, of_done, pour_none}
 use Rattle.model.proofs.SortedMetadata.{merge_into_none, merge_into_self}
+use Rattle.std.specs.Result.{result_unwrap_or}
+use Rattle.buffer.specs.declared.refusal.Number.{Number}
 use Rattle.walk.specs.Stands.{Stands}
 use Rattle.walk.proofs.Parts.{Ahead}
 use Rattle.table.specs.Held.{Held}
 use Rattle.table.specs.Table.{u24, three, no_place, Places, pair_places, SpellField}
-use Rattle.table.specs.declared.Merged as table
-use Rattle.table.specs.declared.Merged.TheVariants.{Used, Clash}
+use Rattle.table.specs.Says as table
+use Rattle.std.proofs.Common.{Ok, Err}
 use Rattle.table.proofs.Numbers.{length_u24}
 use Rattle.table.proofs.Held.{held_as, held_length, held_stands}
 use Rattle.table.proofs.Says.{says_in}
+use Rattle.table.proofs.Opening.{SetsByte}
 use Rattle.metadata.specs.Fields.{with_metadata, merge_field_metadata, Opened}
 use Rattle.metadata.specs.Merges.{SaysRow, SaysEntry, MergesPairs, Marks, OpensMetadata, MergesMetadata}
 use Rattle.table.specs.Edits.{InsertsPlace}
@@ -32,23 +35,19 @@ use Rattle.table.proofs.Fits.{type_fits, field_fits}
 use Rattle.metadata.proofs.Heads.{FindsPairs, part_long, part_counted}
 use Rattle.metadata.proofs.Entries.{flags_is, first_head, is_raw, is_opened, respelt, wider, HasMetadata}
 
--- what `overwrite` ensures
-abbrev pub Overwrites : Bytes → ℕ → ℕ → Bytes → Bytes → Type 0
-Overwrites w used place v w' = (length w' ≡ length w) × ((x y z : Bytes) → Held w used x y z → place ≡ length x → length y ≡ length v → Held w' used x v z)
-
-pub marked : {w w₁ w' : Bytes} {used place flags row r : ℕ} → Overwrites w used place ((flags % 4 + 4) ∷ []) w₁ → Ahead w₁ place 4 row → InsertsPlace w₁ used row no_place w' r → Marks w used place flags w' r
-marked {w} {w₁} {w'} {used} {place} {flags} {row} {r} over a ins = record { same_length = ins.same_length ∙ over.0; marks = go }
+pub marked : {w w₁ w' : Bytes} {used place flags row r : ℕ} → (length w₁ ≡ length w) × SetsByte w used place (flags % 4 + 4) w₁ → Ahead w₁ place 4 row → InsertsPlace w₁ used row no_place w' r → Marks w used place flags w' r
+marked {w} {w₁} {w'} {used} {place} {flags} {row} {r} set a ins = record { same_length = ins.same_length ∙ set.0; marks = go }
   where
     go : (x z b : Bytes) (first : ℕ) → Held w used x (flags ∷ (u24 first ++ b)) z → place ≡ length x → flags < 4 → used + 3 ≤ length w
         → (r ≡ used + 3) × Held w' r (x ++ ((flags + 4) ∷ u24 first)) (u24 no_place) (b ++ z)
     go x z b first h hx low room =
         let f : flags % 4 + 4 ≡ flags + 4 = omega (arith, low) in
         let h₁ : Held w used x (flags ∷ []) ((u24 first ++ b) ++ z) = held_as h refl in
-        let h₂ = subst (λ n. Held w₁ used x (n ∷ []) ((u24 first ++ b) ++ z)) f (over.1 x (flags ∷ []) ((u24 first ++ b) ++ z) h₁ hx refl) in
+        let h₂ = subst (λ n. Held w₁ used x (n ∷ []) ((u24 first ++ b) ++ z)) f (set.1 x ((u24 first ++ b) ++ z) flags h₁ hx (omega arith)) in
         let h₃ : Held w₁ used (x ++ ((flags + 4) ∷ u24 first)) [] (b ++ z) = held_as h₂ (simp append_assoc) in
         let n : length (x ++ ((flags + 4) ∷ u24 first)) ≡ length x + 4 = omega (arith, length-append x ((flags + 4) ∷ u24 first), length_u24 first) in
         let inside : place + 4 ≤ length w₁ = omega (arith, hx, n, held_length h₃, h₃.fits) in
-        ins.inserts (x ++ ((flags + 4) ∷ u24 first)) (b ++ z) h₃ (omega (arith, a.1 inside, hx, n)) (omega (arith, room, over.0))
+        ins.inserts (x ++ ((flags + 4) ∷ u24 first)) (b ++ z) h₃ (omega (arith, a.1 inside, hx, n)) (omega (arith, room, set.0))
 
 -- Places of the pairs of an entry's first occurrence
 
@@ -110,14 +109,14 @@ module _ {s w : Bytes} {used place n : ℕ} (i : n ≡ get_or w place 0) where
         (merges.says own pairs.count pairs.stands e.well_formed.metadata small (x ++ ((n + 4) ∷ u24 e.first)) (u24 no_place) (e.type_spelt ++ z) 3 [] h₁ (omega (arith, b.1 inside, hx, c)) places_none
         (omega (arith, room, c, length-append e.type_spelt z, fits, e.room, raw.room, part_long own, marks.same_length))))
 
-    pub opens_clash : {c u : ℕ} → r ≡ Clash c → OpensMetadata s w used place w₂ u
+    opens_clash : {c : Number} {u : ℕ} → r ≡ Err c → OpensMetadata s w used place w₂ u
     opens_clash {c} e = record {
       same_length = merges.same_length ∙ marks.same_length;
       opens = λ l x y z k f h hx q small room.
           absurd (done_clash (opening l x y z k f h hx q small room e));
     }
 
-    pub opens_row : {next : ℕ} → r ≡ Used next → OpensMetadata s w used place w₂ next
+    opens_row : {next : ℕ} → r ≡ Ok next → OpensMetadata s w used place w₂ next
     opens_row {next} ok = record { same_length = merges.same_length ∙ marks.same_length; opens = go }
       where
         go : (l : ℕ) (x y z : Bytes) (k : ℕ) (f : Field l) → Held w used x y z → place ≡ length x → SpellField l s k y f → length s < no_place → length x + (k + 3) + length z ≤ length w
@@ -137,11 +136,19 @@ module _ {s w : Bytes} {used place n : ℕ} (i : n ≡ get_or w place 0) where
               held = held_as t.held (simp append_assoc);
             }
 
+    -- a clash of them would leave it as it was
+    pub opens_some : {next : ℕ} → next ≡ result_unwrap_or r used → OpensMetadata s w used place w₂ next
+    opens_some {next} e = go r refl e
+      where
+        go : (q : table.Merged) → r ≡ q → next ≡ result_unwrap_or q used → OpensMetadata s w used place w₂ next
+        go (Ok m) i j = opens_row (i ∙ ap (λ (n : ℕ). Ok n) (sym j))
+        go (Err c) i j = opens_clash i
+
 -- What is merged into an entry's metadata
 
 -- what gives the metadata that the entry has changes nothing
 kept : {s w : Bytes} {used : ℕ} (l : ℕ) (x y z : Bytes) (k b : ℕ) (f : Field l) (m : Metadata) → Held w used x y z → SpellField l s k y f → k ≤ b → merge_metadata field_metadata_clash f.head.metadata m ≡ done f.head.metadata
-    → SaysEntry l s b x z w (Used used) (merge_field_metadata f m)
+    → SaysEntry l s b x z w (Ok used) (merge_field_metadata f m)
 unfolding ◌>>=◌
 kept {w = w} {used = used} l x y z k b f m h e fits i = record {
   value = with_metadata f f.head.metadata;
@@ -155,7 +162,7 @@ kept {w = w} {used = used} l x y z k b f m h e fits i = record {
 
 module _ {s w : Bytes} {used place q : ℕ} where
   -- none
-  pub merges_none : {count first : ℕ} → FindsPairs s q count first → count ≡ 0 → MergesMetadata s w used place q w (Used used)
+  pub merges_none : {count first : ℕ} → FindsPairs s q count first → count ≡ 0 → MergesMetadata s w used place q w (Ok used)
   unfolding merge_metadata
   merges_none p c = record {
     same_length = refl;
@@ -167,7 +174,7 @@ module _ {s w : Bytes} {used place q : ℕ} where
       go m (p ∷ n) e = absurd (omega (arith, e))
 
   -- the same
-  pub merges_same : {b : Bool} → HasMetadata s w place q b → b ≡ true → MergesMetadata s w used place q w (Used used)
+  pub merges_same : {b : Bool} → HasMetadata s w place q b → b ≡ true → MergesMetadata s w used place q w (Ok used)
   merges_same has i = record {
     same_length = refl;
     says = λ l h st sorted small x y z k f held hx e room.

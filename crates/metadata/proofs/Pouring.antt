@@ -1,5 +1,5 @@
 -- Pair after pair into a row of pairs: the turns of `merge_pairs`.
-use Prim.Native.Nat.{ℕ, ◌+◌, ◌*◌, ◌-◌, ◌≤◌, ◌<◌}
+use Prim.Native.Nat.{ℕ, ◌+◌, ◌*◌, ◌≤◌, ◌<◌}
 use native.Mathlib.Omega.{arith}
 use mathlib.Core.Path.{◌≡◌, refl, sym, ap, subst, ◌∙◌}
 use mathlib.Core.List.{List, [], ◌∷◌, ◌++◌, append_assoc, append-nil}
@@ -13,13 +13,15 @@ use Rattle.model.specs.WellFormed.{Each, WellFormedPair}
 use Rattle.model.proofs.Lists.{each_append, every_append, every_map}
 use Rattle.model.proofs.Gives as gives
 use Rattle.model.proofs.SortedMetadata.{Lower, below_transitive, keys_lower, merge_pair_past}
+use Rattle.buffer.specs.Refusals.{number_of}
+use Rattle.buffer.specs.declared.refusal.Number.{Number}
 use Rattle.walk.specs.Stands.{Stands}
 use Rattle.walk.proofs.Standing.{first_stands, stands_behind}
 use Rattle.datatype.proofs.Texts.{pair_skips}
 use Rattle.table.specs.Held.{Held}
 use Rattle.table.specs.Table.{u24, no_place, places_bytes, Refer, none_left, Places}
-use Rattle.table.specs.declared.Merged.{Merged}
-use Rattle.table.specs.declared.Merged.TheVariants.{Used, Clash}
+use Rattle.table.specs.Says.{Merged}
+use Rattle.std.proofs.Common.{Ok, Err}
 use Rattle.table.proofs.Held.{held_as, held_stands}
 use Rattle.metadata.specs.Pairs.{Cut}
 use Rattle.metadata.specs.Merges.{SaysRow, PutsPair, MergesPairs}
@@ -55,8 +57,8 @@ pub record Pouring (s w₀ w : Bytes) (used row q count number from end place le
       → Each WellFormedPair [] new → length s < no_place → length x + (k + 4 * length (each pair_bytes new)) + length z ≤ length w₀
       → Left s w number from end place left x z (k + 4 * length (each pair_bytes new)) (merge_metadata number m new)
 
-pub pour_begin : {s w : Bytes} (used row q count number : ℕ) → Pouring s w w used row q count number row used q count
-pour_begin used row q count number = record {
+pub pour_begin : {s w : Bytes} (used row q count number : ℕ) {left : ℕ} → left ≡ count → Pouring s w w used row q count number row used q left
+pour_begin used row q count number e = record {
   same = refl;
   rest = λ x y z k m new h hx pl n st sorted small room. record {
     passed_places = [];
@@ -72,7 +74,7 @@ pour_begin used row q count number = record {
     rest = new;
     sorted = sorted;
     lower = λ p ps e. tt;
-    counts = n;
+    counts = n ∙ sym e;
     stands = st;
     fits = omega arith;
     all = room;
@@ -150,9 +152,9 @@ module _ {s w w' : Bytes} {number from spot end place left : ℕ} {r : Merged} (
                 ∙ ap (λ t. merge_metadata number t (p ∷ ps)) (ap (λ t. k.passed ++ t) c.pairs ∙ sym (append_assoc k.passed c.before c.after));
           }
 
-  left_again : {next value place' : ℕ} → r ≡ Used next → SkipsText s place value → SkipsText s value place' → Left s w' number spot next place' (left - 1) x z b whole
+  left_again : {next value place' left' : ℕ} → r ≡ Ok next → SkipsText s place value → SkipsText s value place' → left ≡ left' + 1 → Left s w' number spot next place' left' x z b whole
   unfolding merge_metadata
-  left_again i key value =
+  left_again i key value one =
       let t = turn in
       let c = t.cut in
       let u = t.says i in
@@ -173,30 +175,30 @@ module _ {s w w' : Bytes} {number from spot end place left : ℕ} {r : Merged} (
         lower = λ q qs e.
             let after = (keys_lower k.seen (t.p ∷ []) q qs (subst (λ n. Each WellFormedPair k.seen (t.p ∷ n)) e sorted)).0 in
             every_map (λ o. below o.0 t.p.0 ≡ true) (λ o. below o.0 q.0 ≡ true) (λ o h. below_transitive o.0 t.p.0 q.0 h after) (k.passed ++ c.before) t.low;
-        counts = omega (arith, k.counts, ap length t.rests);
+        counts = omega (arith, k.counts, ap length t.rests, one);
         stands = stands_behind (pair_skips key value t.p) (subst (λ n. Stands s place (each pair_bytes n)) t.rests k.stands);
         fits = omega (arith, k.fits, u.fits, t.long, t.total);
         all = omega (arith, k.all, puts.same_length);
         is = t.starts ∙ gives.pour_next (merge_pair number) ((k.passed ++ c.before) ++ c.after) t.p t.ps ((k.passed ++ c.before) ++ u.value) (past_done number (k.passed ++ c.before) c.after t.p t.low u.value u.is);
       }
 
-  left_stop : {c : ℕ} → r ≡ Clash c → whole ≡ clash c
+  left_stop : {c : Number} → r ≡ Err c → whole ≡ clash (number_of c)
   unfolding merge_metadata
   left_stop {c} i =
       let t = turn in
       let u = t.says i in
-      t.starts ∙ gives.pour_stop (merge_pair number) ((k.passed ++ t.cut.before) ++ t.cut.after) t.p t.ps c (past_clash number (k.passed ++ t.cut.before) t.cut.after t.p t.low c u)
+      t.starts ∙ gives.pour_stop (merge_pair number) ((k.passed ++ t.cut.before) ++ t.cut.after) t.p t.ps (number_of c) (past_clash number (k.passed ++ t.cut.before) t.cut.after t.p t.low (number_of c) u)
 
 module _ {s w₀ w w' : Bytes} {used row q count number from spot end place left : ℕ} (k : Pouring s w₀ w used row q count number from end place left) where
   module _ {r : Merged} (more : 0 < left) (find : FindsKey s w from place spot) (puts : PutsPair s w end spot place number w' r) where
-    pub pour_again : {next value place' : ℕ} → r ≡ Used next → SkipsText s place value → SkipsText s value place' → Pouring s w₀ w' used row q count number spot next place' (left - 1)
-    pour_again i key value = record {
+    pub pour_again : {next value place' left' : ℕ} → r ≡ Ok next → SkipsText s place value → SkipsText s value place' → left ≡ left' + 1 → Pouring s w₀ w' used row q count number spot next place' left'
+    pour_again i key value one = record {
       same = puts.same_length ∙ k.same;
-      rest = λ x y z j m new h hx pl n st sorted small room. left_again find puts more small (k.rest x y z j m new h hx pl n st sorted small room) i key value;
+      rest = λ x y z j m new h hx pl n st sorted small room. left_again find puts more small (k.rest x y z j m new h hx pl n st sorted small room) i key value one;
     }
 
     -- a clash of one pair is that of all
-    pub pour_stop : {c : ℕ} → r ≡ Clash c → MergesPairs s w₀ used row q count number w' r
+    pub pour_stop : {c : Number} → r ≡ Err c → MergesPairs s w₀ used row q count number w' r
     pour_stop e = record {
       same_length = puts.same_length ∙ k.same;
       says = λ new n st sorted small x y z j m h hx pl room.
@@ -205,17 +207,17 @@ module _ {s w₀ w w' : Bytes} {used row q count number from spot end place left
     }
 
 pub pour_done : {s w₀ w : Bytes} {used row q count number from end place left : ℕ} → Pouring s w₀ w used row q count number from end place left → left ≤ 0
-    → MergesPairs s w₀ used row q count number w (Used end)
+    → MergesPairs s w₀ used row q count number w (Ok end)
 unfolding merge_metadata
 pour_done {s} {w₀} {w} {number = number} {from = from} {end = end} {place = place} {left = left} k none = record {
   same_length = k.same;
   says = λ new n st sorted small x y z j m h hx pl room. go (k.rest x y z j m new h hx pl n st sorted small room);
 }
   where
-    go : {x z : Bytes} {b : ℕ} {whole : model.Merged Metadata} → Left s w number from end place left x z b whole → SaysRow s b x z w (Used end) whole
+    go : {x z : Bytes} {b : ℕ} {whole : model.Merged Metadata} → Left s w number from end place left x z b whole → SaysRow s b x z w (Ok end) whole
     go {x} {z} {b} {whole} l = of l.rest refl
       where
-        of : (ps : Metadata) → l.rest ≡ ps → SaysRow s b x z w (Used end) whole
+        of : (ps : Metadata) → l.rest ≡ ps → SaysRow s b x z w (Ok end) whole
         of [] e = record {
           value = l.passed ++ l.others;
           spelt = each u24 l.passed_places ++ l.spelt;

@@ -6,11 +6,13 @@ use mathlib.Core.List.{List, ◌∷◌, ◌++◌, append_assoc}
 use mathlib.Core.Bool.{Bool, true, false}
 use Rattle.model.specs.Bytes.{Bytes, Metadata}
 use Rattle.model.specs.Sheet.{pair_bytes}
+use Rattle.buffer.specs.Refusals.{number_of}
+use Rattle.buffer.specs.declared.refusal.Number.{Number}
 use Rattle.model.specs.Merge.{Merged, done, need, merge_pair}
 use Rattle.model.proofs.SortedMetadata.{merge_pair_before, merge_pair_there}
 use Rattle.walk.specs.Stands.{Stands}
 use Rattle.table.specs.Table.{u24, three, no_place, places_bytes, Refer, none_left, one_place}
-use Rattle.table.specs.declared.Merged.TheVariants.{Used, Clash}
+use Rattle.std.proofs.Common.{Ok, Err}
 use Rattle.table.proofs.Held.{held_as, held_length, held_stands}
 use Rattle.metadata.specs.Pairs.{NotBelow}
 use Rattle.metadata.specs.Merges.{PutsPair}
@@ -23,10 +25,10 @@ abbrev Front : Bytes → Bytes → ℕ → ℕ → ℕ → (Metadata → Bytes �
 Front s w row q number g =
     (ps : List ℕ) (m : Metadata) (p : Bytes × Bytes) → Stands w row (places_bytes ps) → Refer s pair_bytes ps m → NotBelow m p.0 → Stands s q (pair_bytes p) → merge_pair number m p ≡ g m p
 
-module _ {s w : Bytes} {row q there : ℕ} (used number : ℕ) (e : there ≡ three w row) where
+module _ {s w : Bytes} {row q there : ℕ} (used : ℕ) (number : Number) (e : there ≡ three w row) where
   -- where the pair goes before the first
   module _ {w' : Bytes} {u : ℕ} (ins : InsertsPlace w used row q w' u) where
-    inserted : Front s w row q number (λ m p. done (p ∷ m)) → PutsPair s w used row q number w' (Used u)
+    inserted : Front s w row q (number_of number) (λ m p. done (p ∷ m)) → PutsPair s w used row q (number_of number) w' (Ok u)
     inserted goes = record {
       same_length = ins.same_length;
       says = λ x y z k m p h hx pl nb st small room.
@@ -43,34 +45,34 @@ module _ {s w : Bytes} {row q there : ℕ} (used number : ℕ) (e : there ≡ th
     }
 
     -- there is none
-    pub put_last : there ≡ no_place → PutsPair s w used row q number w' (Used u)
+    pub put_last : there ≡ no_place → PutsPair s w used row q (number_of number) w' (Ok u)
     unfolding merge_pair
     put_last h = inserted go
       where
-        go : Front s w row q number (λ m p. done (p ∷ m))
+        go : Front s w row q (number_of number) (λ m p. done (p ∷ m))
         go ps m p st none_left nb u = refl
         go ps m p st (one_place {p = a} {ps = bs} i v r) nb u = absurd (omega (arith, i, h, e, front_place a bs i st))
 
     -- the first is above it
-    pub put_before : {b : Bool} → KeyBelow s q there b → b ≡ true → PutsPair s w used row q number w' (Used u)
+    pub put_before : {b : Bool} → KeyBelow s q there b → b ≡ true → PutsPair s w used row q (number_of number) w' (Ok u)
     unfolding merge_pair
     put_before {b} v h = inserted go
       where
-        go : Front s w row q number (λ m p. done (p ∷ m))
+        go : Front s w row q (number_of number) (λ m p. done (p ∷ m))
         go ps m p st none_left nb u = refl
         go ps m p st (one_place {p = a} {ps = bs} {x = x} {xs = xs} i t r) nb u =
-            merge_pair_before number x xs p nb (sym (v p x u (subst (λ n. Stands s n (pair_bytes x)) (sym (e ∙ front_place a bs i st)) t)) ∙ h)
+            merge_pair_before (number_of number) x xs p nb (sym (v p x u (subst (λ n. Stands s n (pair_bytes x)) (sym (e ∙ front_place a bs i st)) t)) ∙ h)
 
   -- where its key is the first's
   module _ (never : there ≡ no_place → ⊥) {b c : Bool} (v : KeyBelow s q there b) (h : b ≡ false) (g : SameValue s there q c) where
-    by_value : Front s w row q number (λ m p. need c number m)
+    by_value : Front s w row q (number_of number) (λ m p. need c (number_of number) m)
     by_value ps m p st none_left nb u = absurd (never (e ∙ front_none st))
     by_value ps m p st (one_place {p = a} {ps = bs} {x = x} {xs = xs} i t r) nb u =
         let t2 = subst (λ n. Stands s n (pair_bytes x)) (sym (e ∙ front_place a bs i st)) t in
-        merge_pair_there number x xs p nb (sym (v p x u t2) ∙ h) ∙ ap (λ d. need d number (x ∷ xs)) (sym (g x p t2 u))
+        merge_pair_there (number_of number) x xs p nb (sym (v p x u t2) ∙ h) ∙ ap (λ d. need d (number_of number) (x ∷ xs)) (sym (g x p t2 u))
 
     -- it has the value
-    pub put_there : c ≡ true → PutsPair s w used row q number w (Used used)
+    pub put_there : c ≡ true → PutsPair s w used row q (number_of number) w (Ok used)
     unfolding need
     put_there i = record {
       same_length = refl;
@@ -78,7 +80,7 @@ module _ {s w : Bytes} {row q there : ℕ} (used number : ℕ) (e : there ≡ th
         value = m;
         spelt = y;
         room = k;
-        is = by_value pl.places m p (subst (Stands w row) pl.bytes (held_stands h hx)) pl.refer nb st ∙ ap (λ d. need d number m) i;
+        is = by_value pl.places m p (subst (Stands w row) pl.bytes (held_stands h hx)) pl.refer nb st ∙ ap (λ d. need d (number_of number) m) i;
         spells = pl;
         fits = omega arith;
         held = h;
@@ -86,9 +88,9 @@ module _ {s w : Bytes} {row q there : ℕ} (used number : ℕ) (e : there ≡ th
     }
 
     -- it has another
-    pub put_clash : c ≡ false → PutsPair s w used row q number w (Clash number)
+    pub put_clash : c ≡ false → PutsPair s w used row q (number_of number) w (Err number)
     unfolding need
     put_clash i = record {
       same_length = refl;
-      says = λ x y z k m p h hx pl nb st small room. by_value pl.places m p (subst (Stands w row) pl.bytes (held_stands h hx)) pl.refer nb st ∙ ap (λ d. need d number m) i;
+      says = λ x y z k m p h hx pl nb st small room. by_value pl.places m p (subst (Stands w row) pl.bytes (held_stands h hx)) pl.refer nb st ∙ ap (λ d. need d (number_of number) m) i;
     }

@@ -10,9 +10,8 @@ use Rattle.model.specs.Merge.{merge_pair, merge_metadata}
 use Rattle.walk.specs.Stands.{Stands}
 use Rattle.table.specs.Held.{Held}
 use Rattle.table.specs.Table.{u24, no_place, Places, SpellField}
-use Rattle.table.specs.Says.{Says}
+use Rattle.table.specs.Says.{Merged, Says}
 use Rattle.table.specs.Becomes.{Becomes}
-use Rattle.table.specs.declared.Merged.{Merged}
 use Rattle.metadata.specs.Pairs.{NotBelow}
 use Rattle.metadata.specs.Fields.{merge_field_metadata, Opened}
 

@@ -8,31 +8,25 @@ ghost use Rattle.model.specs.Bytes.{Bytes, Metadata, same_bytes, below};
 ghost use Rattle.model.specs.Tree.{Head, Field};
 ghost use Rattle.model.specs.Equal.{same_metadata};
 ghost use Rattle.model.specs.Sheet.{part, text_bytes, pair_bytes, head_bytes};
+ghost use Rattle.buffer.specs.Refusals.{number_of};
 ghost use Rattle.walk.specs.Stands.{Stands};
 ghost use Rattle.table.specs.Table.{Places, SpellField};
 ghost use Rattle.metadata.specs.Pairs.{Spot};
 ghost use Rattle.metadata.specs.Merges.{PutsPair, MergesPairs, Marks, OpensMetadata, MergesMetadata};
 
+use buffer::Number;
 use datatype::metadata::{of_head, same_stretch, same_text};
-use table::Merged;
+use table::PlaceRow;
+use walk::Elements;
 
 // Whether the bytes from one place to another are below those between two other places.
 fn below_stretch(s: &[u8], a: usize, e: usize, b: usize, f: usize) -> bool
     ensures { (x y : Bytes) → Stands s.now a x → Stands s.now b y → e ≡ a + length x → f ≡ b + length y → result ≡ below x y }
 {
-    if e < a {
-        return false;
+    match (s.get(a..e), s.get(b..f)) {
+        (Some(one), Some(other)) => text::is_below(one, other),
+        _ => false,
     }
-    if s.len() < e {
-        return false;
-    }
-    if f < b {
-        return false;
-    }
-    if s.len() < f {
-        return false;
-    }
-    text::is_below(&s[a..e], &s[b..f])
 }
 
 // Whether the key of one pair of the train is below that of another.
@@ -55,65 +49,58 @@ fn same_value(s: &[u8], a: usize, b: usize) -> bool
 fn find_key(s: &[u8], w: &[u8], row: usize, q: usize) -> usize
     ensures { (k : ℕ) (y : Bytes) (m : Metadata) (p : Bytes × Bytes) → Places s.now pair_bytes k y m → Stands w.now row y → Stands s.now q (pair_bytes p) → Spot s.now row y m p.0 result }
 {
-    let mut place = row;
-    while place < w.len() {
-        let there = table::three(w, place);
-        if there == table::NO_PLACE {
-            return place;
-        }
-        if !key_below(s, there, q) {
-            return place;
-        }
-        place += 3;
-    }
-    place
+    row + 3
+        * PlaceRow::new(w, row)
+            .take_while(|there| key_below(s, *there, q))
+            .count()
 }
 
 // A pair of the train into the row of pairs that begins where its key belongs: before the first, or its key is that of the first.
-fn put_pair(s: &[u8], w: &mut [u8], used: usize, at: usize, q: usize, number: u8) -> Merged
-    ensures { PutsPair s.now w.old used at q number w.new result }
+fn put_pair(
+    s: &[u8],
+    w: &mut [u8],
+    used: usize,
+    at: usize,
+    q: usize,
+    clash: Number,
+) -> Result<usize, Number>
+    ensures { PutsPair s.now w.old used at q (number_of clash) w.new result }
 {
     let there = table::three(w, at);
-    if there == table::NO_PLACE {
-        return Merged::Used(table::insert_place(w, used, at, q));
-    }
-    if key_below(s, q, there) {
-        return Merged::Used(table::insert_place(w, used, at, q));
+    if there == table::NO_PLACE || key_below(s, q, there) {
+        return Ok(table::insert_place(w, used, at, q));
     }
     if same_value(s, there, q) {
-        return Merged::Used(used);
+        return Ok(used);
     }
-    Merged::Clash(number)
+    Err(clash)
 }
 
-// So many pairs of the train, one behind the other, into a row of pairs: the loop over `from.metadata()`. They come in the order of their
+// Pairs of the train, one behind the other, into a row of pairs: the loop over `from.metadata()`. They come in the order of their
 // keys, so each belongs behind the one before it, where the search for it begins.
 pub fn merge_pairs(
     s: &[u8],
     w: &mut [u8],
     used: usize,
     at: usize,
-    q: usize,
-    count: usize,
-    number: u8,
-) -> Merged
-    ensures { MergesPairs s.now w.old used at q count number w.new result }
+    pairs: Elements,
+    clash: Number,
+) -> Result<usize, Number>
+    ensures { MergesPairs s.now w.old used at pairs.at pairs.count (number_of clash) w.new result }
 {
     let mut from = at;
-    let mut place = q;
-    let mut left = count;
+    let mut place = pairs.at;
     let mut end = used;
-    while 0 < left {
+    for _ in 0..pairs.count {
         from = find_key(s, w, from, place);
-        let merged = put_pair(s, w, end, from, place, number);
-        let Merged::Used(next) = merged else {
+        let merged = put_pair(s, w, end, from, place, clash);
+        let Ok(next) = merged else {
             return merged;
         };
         end = next;
         place = walk::skip_text(s, walk::skip_text(s, place));
-        left -= 1;
     }
-    Merged::Used(end)
+    Ok(end)
 }
 
 // Where the metadata of a field of the train begins: behind its name.
@@ -121,7 +108,8 @@ fn skip_name(s: &[u8], at: usize) -> usize
     ensures { (h : Head) → Stands s.now at (head_bytes h) → result ≡ at + 1 + length (part text_bytes h.name) }
 {
     let map = walk::byte(s, at);
-    walk::skip_text_if(s, walk::ahead(s, at, 1), map / 4 % 2 == 1)
+    let name = walk::ahead(s, at, 1);
+    walk::skip_if(s, name, walk::bit(map, 2), walk::skip_text)
 }
 
 // Whether two fields of the train have the same metadata.
@@ -144,23 +132,16 @@ fn same_metadata(s: &[u8], a: usize, b: usize) -> bool
 fn has_metadata(s: &[u8], w: &[u8], at: usize, q: usize) -> bool
     ensures { (l k : ℕ) (y : Bytes) (f : Field l) (h : Head) → SpellField l s.now k y f → Stands w.now at y → Stands s.now q (head_bytes h) → result ≡ true → f.head.metadata ≡ h.metadata }
 {
-    if walk::byte(w, at) / 4 == 1 {
-        return false;
-    }
-    same_metadata(s, table::three(w, walk::ahead(w, at, 1)), q)
+    walk::byte(w, at) / 4 != 1 && same_metadata(s, table::three(w, walk::ahead(w, at, 1)), q)
 }
 
 // Makes an entry one with places of its pairs: the flag, and a row of no places behind the place of the first occurrence.
 fn mark_opened(w: &mut [u8], used: usize, at: usize, flags: usize) -> usize
     ensures { Marks w.old used at flags w.new result }
 {
-    let marked = [(flags % 4 + 4) as u8];
-    table::overwrite(w, used, at, &marked);
+    table::set_byte(w, used, at, flags % 4 + 4);
     table::insert_place(w, used, walk::ahead(w, at, 4), table::NO_PLACE)
 }
-
-// The number of the clash of two fields' metadata.
-const FIELD_METADATA_CLASH: u8 = 21;
 
 // Gives an entry places of its pairs, those of its first occurrence, if it has none.
 fn open_metadata(s: &[u8], w: &mut [u8], used: usize, at: usize) -> usize
@@ -171,39 +152,27 @@ fn open_metadata(s: &[u8], w: &mut [u8], used: usize, at: usize) -> usize
         return used;
     }
     let own = of_head(s, table::three(w, walk::ahead(w, at, 1)));
-    let first = own.at;
-    let count = own.count;
     let end = mark_opened(w, used, at, flags);
     let row = walk::ahead(w, at, 4);
-    let merged = merge_pairs(s, w, end, row, first, count, FIELD_METADATA_CLASH);
-    let Merged::Used(next) = merged else {
-        return used;
-    };
-    next
+    merge_pairs(s, w, end, row, own, Number::FieldMetadataClash).unwrap_or(used)
 }
 
 // `Field::try_merge`, the metadata: an entry of the table, and a field of the train that comes in. What has no metadata, or the same as an
 // entry that nothing was merged into, changes nothing.
-pub fn merge_metadata(s: &[u8], w: &mut [u8], used: usize, at: usize, q: usize) -> Merged
+pub fn merge_metadata(
+    s: &[u8],
+    w: &mut [u8],
+    used: usize,
+    at: usize,
+    q: usize,
+) -> Result<usize, Number>
     ensures { MergesMetadata s.now w.old used at q w.new result }
 {
     let new = of_head(s, q);
-    let first = new.at;
-    let count = new.count;
-    if count == 0 {
-        return Merged::Used(used);
-    }
-    if has_metadata(s, w, at, q) {
-        return Merged::Used(used);
+    if new.count == 0 || has_metadata(s, w, at, q) {
+        return Ok(used);
     }
     let end = open_metadata(s, w, used, at);
-    merge_pairs(
-        s,
-        w,
-        end,
-        walk::ahead(w, at, 4),
-        first,
-        count,
-        FIELD_METADATA_CLASH,
-    )
+    let row = walk::ahead(w, at, 4);
+    merge_pairs(s, w, end, row, new, Number::FieldMetadataClash)
 }

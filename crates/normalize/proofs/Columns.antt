@@ -1,5 +1,5 @@
 -- Columns that are written one behind the other, and the loop over fields that become them.
-use Prim.Native.Nat.{ℕ, ◌+◌, ◌-◌, ◌≤◌, ◌<◌}
+use Prim.Native.Nat.{ℕ, ◌+◌, ◌≤◌, ◌<◌}
 use native.Mathlib.Omega.{arith}
 use mathlib.Core.Path.{◌≡◌, sym, subst}
 use mathlib.Core.List.{List, [], ◌∷◌, ◌++◌}
@@ -93,19 +93,19 @@ module _ {A : Type 0} (W : A → Type 0) (f : A → Bytes) (g : A → List (Fiel
     turns_begin = record { rest = λ w' to k. k }
 
     module _ {left : ℕ} {w : Bytes} {reach : Reach} (i : Turns count w₀ from left w reach) where
-      module _ (h : 0 < left) {w₁ : Bytes} {next : Reach} (k : (x : A) → W x → Expands s (f x) (g x) w reach w₁ next) where
-        pub turns_again : next.written ≤ max_sheet_bytes → Turns count w₀ from (left - 1) w₁ next
+      module _ {w₁ : Bytes} {next : Reach} (k : (x : A) → W x → Expands s (f x) (g x) w reach w₁ next) where
+        pub turns_again : {others : ℕ} → left ≡ others + 1 → next.written ≤ max_sheet_bytes → Turns count w₀ from others w₁ next
         unfolding join
-        turns_again n = record { rest = λ w' to r. i.rest w' to (go w' to r) }
+        turns_again {others} h n = record { rest = λ w' to r. i.rest w' to (go w' to r) }
           where
-            go : (w' : Bytes) (to : Reach) → Rest (left - 1) w₁ next w' to → Rest left w reach w' to
+            go : (w' : Bytes) (to : Reach) → Rest others w₁ next w' to → Rest left w reach w' to
             go w' to r [] e z = absurd (omega (arith, e, h))
-            go w' to r (x ∷ xs) e z = expands_join (f x) (each f xs) (g x) (join g xs) (k x z.0) n (r xs (omega (arith, e)) z.1)
+            go w' to r (x ∷ xs) e z = expands_join (f x) (each f xs) (g x) (join g xs) (k x z.0) n (r xs (omega (arith, e, h)) z.1)
 
         -- it stops
-        pub turns_stop : max_sheet_bytes < next.written → Rest count w₀ from w₁ next
+        pub turns_stop : 0 < left → max_sheet_bytes < next.written → Rest count w₀ from w₁ next
         unfolding join
-        turns_stop n = i.rest w₁ next go
+        turns_stop h n = i.rest w₁ next go
           where
             go : Rest left w reach w₁ next
             go [] e z = absurd (omega (arith, e, h))

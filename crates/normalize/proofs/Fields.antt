@@ -1,11 +1,10 @@
 -- A field at a depth: the column that it is, or those of its children.
 use Prim.Native.Nat.{ℕ, zero, suc, ◌+◌, ◌≤◌, ◌<◌}
 use native.Mathlib.Omega.{arith}
-use native.Mathlib.Numerals.{add-one}
 use mathlib.Core.Path.{◌≡◌, refl, sym, ap, ap₂, subst, ◌∙◌}
 use mathlib.Core.List.{List, [], ◌∷◌, ◌++◌, append_assoc, append-nil}
 use mathlib.Core.Bool.{Bool, true, false, ◌&&◌, ◌||◌}
-use lib.ListN.{length, get_or, set}
+use lib.ListN.{length, get_or, length-append}
 use lib.Dec.{eqb, ltb}
 use borrow.Author.Tests.{eqb-true}
 use Rattle.model.specs.Numbers.{max_levels, max_sheet_bytes}
@@ -28,16 +27,16 @@ use Rattle.normalize.proofs.Names.{prefix_snoc, above_longer}
 use Rattle.normalize.proofs.Columns.{expands_when}
 
 -- what `put_head` ensures
-abbrev PutsHead : (s separator : Bytes) (path : List ℕ) (depth place : ℕ) (w : Bytes) (p : ℕ) (w' : Bytes) (q : ℕ) → Type 0
-PutsHead s separator path depth place w p w' q =
-    (hs : List Head) (h : Head) → Above s path depth hs → Stands s place (head_bytes h)
+abbrev PutsHead : (s separator : Bytes) (path : List ℕ) (place : ℕ) (w : Bytes) (p : ℕ) (w' : Bytes) (q : ℕ) → Type 0
+PutsHead s separator path place w p w' q =
+    (hs : List Head) (h : Head) → Above s path hs → Stands s place (head_bytes h)
     → Puts (head_bytes (plain_head (prefix separator hs ++ h.name) h)) w p w' q
 
-module _ {s : Bytes} (separator : Bytes) {path : List ℕ} {depth : ℕ} {w : Bytes} {from : Reach} where
+module _ {s : Bytes} (separator : Bytes) {path : List ℕ} {w : Bytes} {from : Reach} where
   pub column_expanded : {typed end : ℕ} {w₁ w₂ : Bytes} {q r d : ℕ} → ((h : Head) → Skips s from.place (head_bytes h) typed) → SkipsType s typed max_levels end
-      → PutsHead s separator path depth from.place w from.written w₁ q
+      → PutsHead s separator path from.place w from.written w₁ q
       → ((b : Bytes) → Stands s typed b → end ≡ typed + length b → Puts b w₁ q w₂ r) → (from.count < max_sheet_bytes → d ≡ from.count + 1)
-      → ExpandsColumn s separator path depth w from w₂ (record { place = end; written = r; count = d })
+      → ExpandsColumn s separator path w from w₂ (record { place = end; written = r; count = d })
   unfolding field_bytes
   column_expanded i j f g n l up hs x h e a z =
       let t = x.data_type in
@@ -62,47 +61,49 @@ struct_bytes l t e z =
     ap₂ (λ c b. c ∷ (b ++ children_bytes (type_bytes l) (layout c).children t.children)) e none
 
 -- the columns of the children, as the walk has them: this field is now above
-children_columns : (separator : Bytes) (maxLevel depth l : ℕ) (up : DataType l → DataType max_levels) (hs : List Head) (h : Head) (ks : List (Field l))
-    → join (columns_of separator maxLevel (depth + 1) l up (hs ++ (h ∷ []))) ks
-    ≡ join (λ c. expand separator maxLevel l up (suc depth) ((prefix separator hs ++ h.name) ++ (separator ++ c.head.name)) c.head c.data_type) ks
-children_columns separator maxLevel depth l up hs h ks = join_same _ _ (λ c. ap₂ (λ d n. expand separator maxLevel l up d n c.head c.data_type) (add-one depth) (name c.head.name)) ks
+children_columns : (separator : Bytes) (maxLevel place l : ℕ) (path : List ℕ) (up : DataType l → DataType max_levels) (hs : List Head) (h : Head) (ks : List (Field l))
+    → join (columns_of separator maxLevel (length (path ++ (place ∷ []))) l up (hs ++ (h ∷ []))) ks
+    ≡ join (λ c. expand separator maxLevel l up (suc (length path)) ((prefix separator hs ++ h.name) ++ (separator ++ c.head.name)) c.head c.data_type) ks
+children_columns separator maxLevel place l path up hs h ks = join_same _ _ (λ c. ap₂ (λ d n. expand separator maxLevel l up d n c.head c.data_type) deeper (name c.head.name)) ks
   where
+    deeper : length (path ++ (place ∷ [])) ≡ suc (length path)
+    deeper = omega (arith, length-append path (place ∷ []))
+
     name : (m : Bytes) → prefix separator (hs ++ (h ∷ [])) ++ m ≡ (prefix separator hs ++ h.name) ++ (separator ++ m)
     name m =
         ap (λ b. b ++ m) (prefix_snoc separator hs h ∙ sym (append_assoc (prefix separator hs) h.name separator))
         ∙ append_assoc (prefix separator hs ++ h.name) separator m
 
 -- no field is so deep
-pub no_level : {s : Bytes} (separator : Bytes) (maxLevel : ℕ) {path : List ℕ} (depth : ℕ) {w : Bytes} {from : Reach} {w' : Bytes} {to : Reach}
-    → max_levels ≤ depth → ExpandsField s separator maxLevel path depth w from w' to
-no_level separator maxLevel depth h zero up hs f k e a z = absurd z
-no_level separator maxLevel depth h (suc l) up hs f k e a z = absurd (omega (arith, h, k))
+pub no_level : {s : Bytes} (separator : Bytes) (maxLevel : ℕ) (path : List ℕ) {w : Bytes} {from : Reach} {w' : Bytes} {to : Reach}
+    → max_levels ≤ length path → ExpandsField s separator maxLevel path w from w' to
+no_level separator maxLevel path h zero up hs f k e a z = absurd z
+no_level separator maxLevel path h (suc l) up hs f k e a z = absurd (omega (arith, h, k))
 
 -- whether a field is expanded, from its type's code
-module _ {s : Bytes} (separator : Bytes) (maxLevel depth : ℕ) (from : Reach) {typed code : ℕ} {t : Bool}
-    (skip : (h : Head) → Skips s from.place (head_bytes h) typed) (c : code ≡ get_or s typed 0)
+module _ {s : Bytes} (separator : Bytes) (maxLevel : ℕ) (path : List ℕ) (from : Reach) {typed code depth : ℕ} {t : Bool}
+    (skip : (h : Head) → Skips s from.place (head_bytes h) typed) (c : code ≡ get_or s typed 0) (d : depth ≡ length path)
     (test : t ≡ (eqb code Struct && (eqb maxLevel 0 || ltb depth maxLevel))) where
   tested : (l : ℕ) (f : Field (suc l)) → Stands s from.place (field_bytes (type_bytes (suc l)) f)
-      → (eqb f.data_type.code Struct && (eqb maxLevel 0 || ltb depth maxLevel)) ≡ t
+      → (eqb f.data_type.code Struct && (eqb maxLevel 0 || ltb (length path) maxLevel)) ≡ t
   tested l f st =
-      ap (λ n. eqb n Struct && (eqb maxLevel 0 || ltb depth maxLevel)) (sym (c ∙ code_stands l f.data_type (type_stands (suc l) f skip st))) ∙ sym test
+      ap₂ (λ n d. eqb n Struct && (eqb maxLevel 0 || ltb d maxLevel)) (sym (c ∙ code_stands l f.data_type (type_stands (suc l) f skip st))) (sym d) ∙ sym test
 
-  module _ {path : List ℕ} {w w' : Bytes} {to : Reach} where
-    pub field_itself : t ≡ false → ExpandsColumn s separator path depth w from w' to → ExpandsField s separator maxLevel path depth w from w' to
+  module _ {w w' : Bytes} {to : Reach} where
+    pub field_itself : t ≡ false → ExpandsColumn s separator path w from w' to → ExpandsField s separator maxLevel path w from w' to
     field_itself n g zero up hs f k e a z = absurd z
     field_itself n g (suc l) up hs f k e a z =
         expands_when λ st.
         subst (λ cs. Expands s (field_bytes (type_bytes (suc l)) f) cs w from w' to)
-        (sym (expand_itself separator maxLevel l up depth _ _ f.data_type (tested l f st ∙ n)))
+        (sym (expand_itself separator maxLevel l up (length path) _ _ f.data_type (tested l f st ∙ n)))
         (g (suc l) up hs f k e a z)
 
-    pub field_expanded : {counted first n : ℕ} {longer : List ℕ} → t ≡ true → depth < max_levels → Ahead s typed 1 counted → Ahead s counted 2 first → n ≡ two_at s counted
-        → (depth < max_levels → longer ≡ set path depth from.place)
-        → ExpandsFields s separator maxLevel longer (depth + 1) n w (record { place = first; written = from.written; count = from.count }) w' to
-        → ExpandsField s separator maxLevel path depth w from w' to
+    pub field_expanded : {counted first n : ℕ} {longer : List ℕ} → t ≡ true → longer ≡ path ++ (from.place ∷ []) → Ahead s typed 1 counted → Ahead s counted 2 first → n ≡ two_at s counted
+        → ExpandsFields s separator maxLevel longer n w (record { place = first; written = from.written; count = from.count }) w' to
+        → ExpandsField s separator maxLevel path w from w' to
     unfolding field_bytes with_count u16
-    field_expanded y d i j m p g zero up hs f k e a z = absurd z
-    field_expanded {counted} {first} {n} {longer} y d i j m p g (suc l) up hs f k e a z =
+    field_expanded y p i j m g zero up hs f k e a z = absurd z
+    field_expanded {counted} {first} {n} {longer} y p i j m g (suc l) up hs f k e a z =
         expands_when λ st.
         let x = f.data_type in
         let ks = x.children in
@@ -110,8 +111,9 @@ module _ {s : Bytes} (separator : Bytes) (maxLevel depth : ℕ) (from : Reach) {
         let b = struct_bytes l x (eqb-true x.code Struct (and_true _ _ same).0) z in
         let u : Stands s counted (with_count (field_bytes (type_bytes l)) ks) =
         stands_behind (skip_ahead (Struct ∷ []) refl i.1) (subst (Stands s typed) b (type_stands (suc l) f skip st)) in
-        let above = subst (λ p. Above s p (depth + 1) (hs ++ (f.head ∷ []))) (sym (p d)) (above_longer f.head d a (head_stands (suc l) f st)) in
-        let inner = g l (λ v. up (lift l v)) (hs ++ (f.head ∷ [])) ks (omega (arith, k)) (λ v. e (lift l v) ∙ lift_bytes l v) above
+        let above = above_longer f.head a (head_stands (suc l) f st) in
+        let fields = subst (λ q. ExpandsFields s separator maxLevel q n w (record { place = first; written = from.written; count = from.count }) w' to) p g in
+        let inner = fields l (λ v. up (lift l v)) (hs ++ (f.head ∷ [])) ks (omega (arith, k, length-append path (from.place ∷ []))) (λ v. e (lift l v) ∙ lift_bytes l v) above
         (sym (m ∙ count_stands (field_bytes (type_bytes l)) ks u)) z.2 in
         let v = elements_stand (field_bytes (type_bytes l)) ks j u in
         let whole : Skips s typed (type_bytes (suc l) x) (first + length (each (field_bytes (type_bytes l)) ks)) =
@@ -121,6 +123,6 @@ module _ {s : Bytes} (separator : Bytes) (maxLevel depth : ℕ) (from : Reach) {
           behind = λ st h. inner.behind v h ∙ (skip_join (skip f.head) whole).behind st;
           adds = λ st.
               subst (λ cs. Adds cs w from.written from.count w' to.written to.count)
-              (children_columns separator maxLevel depth l (λ v. up (lift l v)) hs f.head ks ∙ sym (expand_children separator maxLevel l up depth _ _ x same))
+              (children_columns separator maxLevel from.place l path (λ v. up (lift l v)) hs f.head ks ∙ sym (expand_children separator maxLevel l up (length path) _ _ x same))
               (inner.adds v);
         }

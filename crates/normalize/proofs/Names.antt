@@ -5,12 +5,12 @@ use native.Mathlib.Numerals.{add-one}
 use mathlib.Core.Path.{◌≡◌, refl, sym, ap, ap₂, subst, subst₂, ◌∙◌}
 use mathlib.Core.List.{List, [], ◌∷◌, ◌++◌, append-nil}
 use mathlib.Core.Bool.{Bool, true, false}
-use lib.ListN.{length, take, get_or, set, length-append, length-set}
+use lib.ListN.{length, take, get_or, length-append}
 use lib.Dec.{eqb, leb}
-use lib.Seq.{take_all, take-suc, take_at, get_or_at, get_or-take, get_or-set_same, get_or-set_other}
+use lib.Seq.{take_all, take-suc, take_at, get_or_at, get_or-take}
 use borrow.Author.Tests.{eqb-true, eqb-false, leb-true, leb-false}
-use Rattle.model.specs.Numbers.{max_levels, max_sheet_bytes}
-use Rattle.model.specs.Bytes.{Bytes, u16, flag}
+use Rattle.model.specs.Numbers.{max_sheet_bytes}
+use Rattle.model.specs.Bytes.{Bytes, u16, bit, flag}
 use Rattle.model.specs.Tree.{Head, blank}
 use Rattle.model.specs.Sheet.{front_bytes, text_bytes, head_bytes}
 use Rattle.model.specs.Schema.{plain_head, join}
@@ -18,7 +18,7 @@ use Rattle.model.proofs.Normalized.{join_append}
 use Rattle.buffer.specs.Puts.{Puts}
 use Rattle.buffer.proofs.Puts.{puts_none, puts_same, puts_join, puts_two}
 use Rattle.walk.specs.Stands.{Stands, Skips}
-use Rattle.walk.proofs.Parts.{Ahead}
+use Rattle.walk.proofs.Parts.{Ahead, bit_true, bit_false}
 use Rattle.walk.proofs.Descents.{name_stands, no_name, body_stands}
 use Rattle.normalize.specs.Expands.{Above, prefix, Measures}
 
@@ -28,17 +28,17 @@ use Rattle.normalize.specs.Expands.{Above, prefix, Measures}
 abbrev PutsOwn : (s : Bytes) (place : ℕ) (w : Bytes) (p : ℕ) (w' : Bytes) (q : ℕ) → Type 0
 PutsOwn s place w p w' q = (h : Head) → Stands s place (head_bytes h) → Puts h.name w p w' q
 
-module _ {s : Bytes} {place map : ℕ} (e : map ≡ get_or s place 0) {w : Bytes} {p : ℕ} where
-  pub own_named : {text body end : ℕ} {w' : Bytes} {q : ℕ} → map / 4 % 2 ≡ 1 → Ahead s place 1 text → Ahead s text 2 body → ((t : Bytes) → Skips s text (text_bytes t) end)
+module _ {s : Bytes} {place map : ℕ} {set : Bool} (e : map ≡ get_or s place 0) (k : set ≡ bit 2 map) {w : Bytes} {p : ℕ} where
+  pub own_named : {text body end : ℕ} {w' : Bytes} {q : ℕ} → set ≡ true → Ahead s place 1 text → Ahead s text 2 body → ((t : Bytes) → Skips s text (text_bytes t) end)
       → ((b : Bytes) → Stands s body b → end ≡ body + length b → Puts b w p w' q) → PutsOwn s place w p w' q
   unfolding text_bytes u16
-  own_named b i j k f h st =
-      let t = name_stands e b i h st in
+  own_named b i j l f h st =
+      let t = name_stands e (bit_true 2 map (sym k ∙ b)) i h st in
       let u = body_stands h.name j t in
-      f h.name u.1 (omega (arith, (k h.name).behind t, u.0))
+      f h.name u.1 (omega (arith, (l h.name).behind t, u.0))
 
-  pub own_unnamed : (map / 4 % 2 ≡ 1 → ⊥) → PutsOwn s place w p w p
-  own_unnamed b h st = puts_same (sym (no_name e b h st)) puts_none
+  pub own_unnamed : set ≡ false → PutsOwn s place w p w p
+  own_unnamed b h st = puts_same (sym (no_name e (bit_false 2 map (sym k ∙ b)) h st)) puts_none
 
 -- The names above
 
@@ -48,55 +48,51 @@ prefix_snoc separator hs h =
     join_append (λ h. h.name ++ separator) hs (h ∷ []) ∙ ap (λ r. prefix separator hs ++ r) (append-nil (h.name ++ separator))
 
 -- a field that stands at a place is added to those above
-pub above_longer : {s : Bytes} {path : List ℕ} {depth place : ℕ} {hs : List Head} (h : Head) → depth < max_levels → Above s path depth hs → Stands s place (head_bytes h)
-    → Above s (set path depth place) (depth + 1) (hs ++ (h ∷ []))
-above_longer {s} {path} {depth} {place} {hs} h k a st = record {
-  size = length-set path depth place ∙ a.size;
-  count = omega (arith, length-append hs (h ∷ []), a.count);
-  few = omega (arith, k);
-  stand = λ i j. go i j (eqb i depth) refl;
+pub above_longer : {s : Bytes} {path : List ℕ} {place : ℕ} {hs : List Head} (h : Head) → Above s path hs → Stands s place (head_bytes h)
+    → Above s (path ++ (place ∷ [])) (hs ++ (h ∷ []))
+above_longer {s} {path} {place} {hs} h a st = record {
+  count = omega (arith, length-append hs (h ∷ []), length-append path (place ∷ []), a.count);
+  stand = λ i j. go i (omega (arith, j, length-append path (place ∷ []))) (eqb i (length path)) refl;
 }
   where
-    go : (i : ℕ) → i < depth + 1 → (b : Bool) → eqb i depth ≡ b → Stands s (get_or (set path depth place) i 0) (head_bytes (get_or (hs ++ (h ∷ [])) i blank))
+    before : {A : Type 0} (xs : List A) (x d : A) (i : ℕ) → i < length xs → get_or xs i d ≡ get_or (xs ++ (x ∷ [])) i d
+    before xs x d i l = sym (sym (get_or-take (length xs) (xs ++ (x ∷ [])) i d l) ∙ ap (λ ys. get_or ys i d) (take_at xs (x ∷ []) (length xs) refl))
+
+    go : (i : ℕ) → i < length path + 1 → (b : Bool) → eqb i (length path) ≡ b → Stands s (get_or (path ++ (place ∷ [])) i 0) (head_bytes (get_or (hs ++ (h ∷ [])) i blank))
     go i j true e =
-        let n = eqb-true i depth e in
+        let n = eqb-true i (length path) e in
         subst₂ (λ m x. Stands s m (head_bytes x))
-        (sym (ap (λ m. get_or (set path depth place) m 0) n ∙ get_or-set_same path depth place 0 (omega (arith, k, a.size))))
-        (sym (ap (λ m. get_or (hs ++ (h ∷ [])) m blank) n ∙ get_or_at hs h [] blank depth a.count))
+        (sym (get_or_at path place [] 0 i (sym n)))
+        (sym (get_or_at hs h [] blank i (a.count ∙ sym n)))
         st
     go i j false e =
-        let n = eqb-false i depth e in
-        let l : i < depth = omega (arith, j, n) in
-        subst₂ (λ m x. Stands s m (head_bytes x))
-        (sym (get_or-set_other path depth i place 0 n))
-        (sym (sym (get_or-take depth (hs ++ (h ∷ [])) i blank l) ∙ ap (λ xs. get_or xs i blank) (take_at hs (h ∷ []) depth a.count)))
-        (a.stand i l)
+        let l : i < length path = omega (arith, j, eqb-false i (length path) e) in
+        subst₂ (λ m x. Stands s m (head_bytes x)) (before path place 0 i l) (before hs h blank i (omega (arith, l, a.count))) (a.stand i l)
 
 -- the loop: the names of so many are written
-pub record Prefixed (s separator : Bytes) (path : List ℕ) (depth : ℕ) (w₀ : Bytes) (p₀ : ℕ) (w : Bytes) (p i : ℕ) : Type 0 where
-  pub bound : i ≤ depth
-  pub puts : (hs : List Head) → Above s path depth hs → Puts (prefix separator (take i hs)) w₀ p₀ w p
+pub record Prefixed (s separator : Bytes) (path : List ℕ) (w₀ : Bytes) (p₀ : ℕ) (w : Bytes) (p i : ℕ) : Type 0 where
+  pub puts : (hs : List Head) → Above s path hs → Puts (prefix separator (take i hs)) w₀ p₀ w p
 
-module _ {s separator : Bytes} {path : List ℕ} {depth : ℕ} {w₀ : Bytes} {p₀ : ℕ} where
-  pub prefixed_begin : Prefixed s separator path depth w₀ p₀ w₀ p₀ 0
+module _ {s separator : Bytes} {path : List ℕ} {w₀ : Bytes} {p₀ : ℕ} where
+  pub prefixed_begin : Prefixed s separator path w₀ p₀ w₀ p₀ 0
   unfolding prefix join
-  prefixed_begin = record { bound = omega arith; puts = λ hs a. puts_none }
+  prefixed_begin = record { puts = λ hs a. puts_none }
 
-  module _ {w : Bytes} {p i : ℕ} (k : Prefixed s separator path depth w₀ p₀ w p i) where
-    pub prefixed_again : {place : ℕ} {w₁ w₂ : Bytes} {q r : ℕ} → i < depth → (i < max_levels → place ≡ get_or path i 0) → PutsOwn s place w p w₁ q → Puts separator w₁ q w₂ r
-        → Prefixed s separator path depth w₀ p₀ w₂ r (i + 1)
-    prefixed_again {place} {w₁} {w₂} {q} {r} h e f g = record {
-      bound = omega (arith, h);
+  module _ {w : Bytes} {p i : ℕ} (k : Prefixed s separator path w₀ p₀ w p i) where
+    pub prefixed_again : {places : List ℕ} {w₁ w₂ : Bytes} {q r : ℕ} → places ≡ path → i < length places → PutsOwn s (get_or places i 0) w p w₁ q → Puts separator w₁ q w₂ r
+        → Prefixed s separator path w₀ p₀ w₂ r (i + 1)
+    prefixed_again {places} {w₁} {w₂} {q} {r} e l f' g = record {
       puts = λ hs a.
           let x = get_or hs i blank in
-          let st : Stands s place (head_bytes x) = subst (λ n. Stands s n (head_bytes x)) (sym (e (omega (arith, h, a.few)))) (a.stand i h) in
+          let h : i < length path = subst (λ ps. i < length ps) e l in
+          let f = subst (λ ps. PutsOwn s (get_or ps i 0) w p w₁ q) e f' in
           let all : prefix separator (take i hs) ++ (x.name ++ separator) ≡ prefix separator (take (i + 1) hs) =
           sym (ap (λ n. prefix separator (take n hs)) (add-one i) ∙ ap (prefix separator) (take-suc hs i blank (omega (arith, h, a.count))) ∙ prefix_snoc separator (take i hs) x) in
-          puts_same all (puts_join (prefix separator (take i hs)) (x.name ++ separator) (k.puts hs a) (puts_join x.name separator (f x st) g));
+          puts_same all (puts_join (prefix separator (take i hs)) (x.name ++ separator) (k.puts hs a) (puts_join x.name separator (f x (a.stand i h)) g));
     }
 
-    pub prefixed_done : depth ≤ i → (hs : List Head) → Above s path depth hs → Puts (prefix separator hs) w₀ p₀ w p
-    prefixed_done h hs a = subst (λ xs. Puts (prefix separator xs) w₀ p₀ w p) (take_all i hs (omega (arith, a.count, h))) (k.puts hs a)
+    pub prefixed_done : {places : List ℕ} → places ≡ path → length places ≤ i → (hs : List Head) → Above s path hs → Puts (prefix separator hs) w₀ p₀ w p
+    prefixed_done e h hs a = subst (λ xs. Puts (prefix separator xs) w₀ p₀ w p) (take_all i hs (omega (arith, a.count, ap length e, h))) (k.puts hs a)
 
 -- The length of a name, from its bytes as they are put from 0 on
 pub name_measured : (b : Bytes) {w w' : Bytes} {q : ℕ} → Puts b w 0 w' q → Measures b q

@@ -1,13 +1,13 @@
 -- The sheet of the normalised schema, and `normalize` as a call.
 use Prim.Native.Nat.{ℕ, ◌+◌, ◌%◌, ◌/◌, ◌≤◌, ◌<◌}
 use native.Mathlib.Omega.{arith}
-use mathlib.Core.Path.{◌≡◌, refl, sym, ap, ◌∙◌}
+use mathlib.Core.Path.{◌≡◌, refl, sym, ap, subst, ◌∙◌}
 use mathlib.Core.List.{List, [], ◌∷◌, ◌++◌}
-use mathlib.Core.Bool.{Bool, true, false}
+use mathlib.Core.Bool.{Bool, true, false, false≢true}
 use lib.ListN.{length}
 use lib.Dec.{leb, ltb}
-use borrow.Author.Tests.{leb-true, leb-false, ltb-false, lt-leb}
-use Rattle.model.specs.Numbers.{max_levels, max_sheet_bytes, accepted, separator_not_utf8}
+use borrow.Author.Tests.{leb-true, leb-false, ltb-false, le-leb, lt-leb}
+use Rattle.model.specs.Numbers.{max_levels, max_sheet_bytes, separator_not_utf8}
 use Rattle.model.specs.Bytes.{Bytes, choose, u16}
 use Rattle.model.specs.Text.{utf8}
 use Rattle.model.specs.Tree.{Field, Schema}
@@ -16,14 +16,16 @@ use Rattle.model.specs.WellFormed.{Fits}
 use Rattle.model.specs.Read.{judged, unless}
 use Rattle.model.specs.Schema.{join, normalized_columns, normalize}
 use Rattle.model.specs.Call.{bytes, refused, and_then, sheet_answer, acceptance, settled}
-use Rattle.model.proofs.Gives.{choose_false}
+use Rattle.model.proofs.Gives.{choose_true, choose_false}
 use Rattle.model.proofs.WellFormed.{columns_laid_out}
-use Rattle.text.specs.declared.Text.{Text}
-use Rattle.text.specs.declared.Text.TheVariants.{Valid, Broken}
+use Rattle.std.specs.Prelude.{Result, Ok, Err, is_err}
+use Rattle.text.specs.declared.NotUtf8.{NotUtf8}
 use Rattle.text.specs.Text.{text_of}
-use Rattle.buffer.specs.declared.Outcome.{Outcome}
-use Rattle.buffer.specs.Puts.{Puts, length_number}
-use Rattle.buffer.specs.Leaves.{leaves, refused_with, accepted_with}
+use Rattle.buffer.specs.declared.refusal.Number.{Number}
+use Rattle.buffer.specs.declared.refusal.Refusal.{Refusal}
+use Rattle.buffer.specs.Refusals.{numbered, without_place}
+use Rattle.buffer.specs.Puts.{Puts, length_number, unless_refused}
+use Rattle.buffer.specs.Leaves.{leaves}
 use Rattle.buffer.proofs.Puts.{puts_join, puts_two, put_refused, put_accepted}
 use Rattle.buffer.proofs.Ends.{leaves_refusal}
 use Rattle.walk.specs.Stands.{Stands, ColumnsAt}
@@ -33,14 +35,15 @@ use Rattle.normalize.specs.declared.Reach.{Reach}
 use Rattle.normalize.specs.Expands.{prefix, Measures, Adds, ExpandsFields, normalized, PutsColumns, PutsNormalized, sheet_length}
 
 -- all columns of a sheet that was read: no field is above them
-pub columns_put : {s : Bytes} (separator : Bytes) (maxLevel : ℕ) (path : List ℕ) {n first : ℕ} {w : Bytes} {p : ℕ} {w' : Bytes} {to : Reach} → length path ≡ max_levels
+pub columns_put : {s : Bytes} (separator : Bytes) (maxLevel : ℕ) {path : List ℕ} {n first : ℕ} {w : Bytes} {p : ℕ} {w' : Bytes} {to : Reach} → path ≡ []
     → ((x : Schema) → Stands s 0 (sheet_bytes x) → ColumnsAt s 0 x n first)
-    → ExpandsFields s separator maxLevel path 0 n w (record { place = first; written = p; count = 0 }) w' to → PutsColumns s separator maxLevel w p w' to
+    → ExpandsFields s separator maxLevel path n w (record { place = first; written = p; count = 0 }) w' to → PutsColumns s separator maxLevel w p w' to
 unfolding normalized_columns prefix join
-columns_put {s} separator maxLevel path size f g x fits e =
+columns_put {s} separator maxLevel {path} {n} {first} {w} {p} {w'} {to} none f g x fits e =
     let a = f x (whole_stands s (sheet_bytes x) e) in
-    (g max_levels (λ t. t) [] x.columns (omega arith) (λ t. refl)
-    (record { size = size; count = refl; few = omega arith; stand = λ i h. absurd (omega (arith, h)) })
+    let fields = subst (λ q. ExpandsFields s separator maxLevel q n w (record { place = first; written = p; count = 0 }) w' to) none g in
+    (fields max_levels (λ t. t) [] x.columns (omega arith) (λ t. refl)
+    (record { count = refl; stand = λ i h. absurd (omega (arith, h)) })
     (sym a.count) (columns_laid_out x fits.well_formed)).adds a.stands
 
 -- A sheet of such columns and no metadata: its map, and behind it their count and the columns, if there are any
@@ -65,7 +68,11 @@ module _ {w : Bytes} {n : ℕ} where
 
 -- Its length and the number of its columns, from the columns as they are put from 3 on
 
-long_sheet : (q : ℕ) → 3 < q → sheet_length q ≡ q
+pub short_sheet : (q : ℕ) → q ≤ 3 → sheet_length q ≡ 1
+unfolding sheet_length
+short_sheet q h = choose_true _ _ _ (le-leb q 3 h)
+
+pub long_sheet : (q : ℕ) → 3 < q → sheet_length q ≡ q
 unfolding sheet_length
 long_sheet q h = choose_false _ _ _ (lt-leb q 3 h)
 
@@ -108,68 +115,70 @@ measured_puts b m h = record {
   written = λ k l. absurd (omega (arith, h, l));
 }
 
--- an accepted length is no longer than the longest answer
-accepted_length : (n room : ℕ) {v : ℕ} → v ≡ length_number n room → v ≡ accepted → n ≤ max_sheet_bytes
+-- a length that fits is no longer than the longest answer
+fitting_length : (n room : ℕ) {f : Result Unit Refusal} → numbered f ≡ unless_refused (length_number n room) → f ≡ Ok tt → n ≤ max_sheet_bytes
 unfolding length_number choose
-accepted_length n room e h = go (ltb max_sheet_bytes n) refl (sym h ∙ e)
+fitting_length n room {f} e h = go (ltb max_sheet_bytes n) refl (sym (ap numbered h) ∙ e)
   where
-    go : (t : Bool) → ltb max_sheet_bytes n ≡ t → ◌≡◌ {A = ℕ} 0 (choose t (λ u. 30) (λ u. choose (ltb room n) (λ u. 31) λ u. 0)) → n ≤ max_sheet_bytes
-    go true i k = absurd (omega (arith, k))
+    go : (t : Bool) → ltb max_sheet_bytes n ≡ t
+        → ◌≡◌ {A = Result Unit (ℕ × ℕ)} (Ok tt) (unless_refused (choose t (λ u. 30) (λ u. choose (ltb room n) (λ u. 31) λ u. 0))) → n ≤ max_sheet_bytes
+    go true i k = cc
     go false i k = ltb-false max_sheet_bytes n i
 
--- what the operation answers, by the check of the separator
-module _ (x : Schema) (separator : Bytes) (maxLevel : ℕ) {checked : Text} (e : checked ≡ text_of (utf8 separator)) where
-  broken_answer : checked ≡ Broken → sheet_answer (normalize x separator maxLevel) ≡ refused separator_not_utf8 0
-  unfolding normalize judged unless sheet_answer and_then
-  broken_answer h = go (utf8 separator) (sym e ∙ h)
-    where
-      go : (b : Bool) → text_of b ≡ Broken → sheet_answer (judged (unless b separator_not_utf8) 0 (normalized separator maxLevel x) 0) ≡ refused separator_not_utf8 0
-      go true j = absurd (let z : ◌≡◌ {A = ℕ} 0 1 = cc in omega arith)
-      go false j = refl
+-- the check of the separator
+pub check_failed : (t : Bool) {r : Result Unit NotUtf8} → r ≡ text_of t → is_err r ≡ true → t ≡ false
+check_failed true e h = absurd (false≢true (sym (ap is_err e) ∙ h))
+check_failed false e h = refl
 
-  valid_answer : checked ≡ Valid → sheet_answer (normalize x separator maxLevel) ≡ bytes (sheet_bytes (normalized separator maxLevel x))
+pub check_passed : (t : Bool) {r : Result Unit NotUtf8} → r ≡ text_of t → is_err r ≡ false → t ≡ true
+check_passed true e h = refl
+check_passed false e h = absurd (false≢true (sym h ∙ ap is_err e))
+
+-- what the operation answers, by it
+module _ (x : Schema) (separator : Bytes) (maxLevel : ℕ) where
+  broken_answer : utf8 separator ≡ false → sheet_answer (normalize x separator maxLevel) ≡ refused separator_not_utf8 0
   unfolding normalize judged unless sheet_answer and_then
-  valid_answer h = go (utf8 separator) (sym e ∙ h)
-    where
-      go : (b : Bool) → text_of b ≡ Valid
-          → sheet_answer (judged (unless b separator_not_utf8) 0 (normalized separator maxLevel x) 0) ≡ bytes (sheet_bytes (normalized separator maxLevel x))
-      go true j = refl
-      go false j = absurd (let z : ◌≡◌ {A = ℕ} 0 1 = cc in omega arith)
+  broken_answer h = ap (λ b. sheet_answer (judged (unless b separator_not_utf8) 0 (normalized separator maxLevel x) 0)) h
+
+  valid_answer : utf8 separator ≡ true → sheet_answer (normalize x separator maxLevel) ≡ bytes (sheet_bytes (normalized separator maxLevel x))
+  unfolding normalize judged unless sheet_answer and_then
+  valid_answer h = ap (λ b. sheet_answer (judged (unless b separator_not_utf8) 0 (normalized separator maxLevel x) 0)) h
 
 module _ (s separator : Bytes) (maxLevel : ℕ) (cleared answer : Bytes) where
   -- what the call leaves on a sheet that was read, with the work buffer cleared
-  abbrev Ends : Outcome → Bytes → Bytes → Type 0
+  abbrev Ends : Result ℕ Refusal → Bytes → Bytes → Type 0
   Ends r answer' after =
       (x : Schema) → Fits x → s ≡ sheet_bytes x → leaves r answer' after ≡ settled (sheet_answer (normalize x separator maxLevel)) cleared answer
 
-  module _ {checked : Text} (e : checked ≡ text_of (utf8 separator)) {after : Bytes} (z : after ≡ cleared) where
+  module _ {after : Bytes} (z : after ≡ cleared) where
     -- 18
-    pub separator_refused : {r : Outcome} → checked ≡ Broken → r ≡ refused_with separator_not_utf8 0 → Ends r answer after
+    pub separator_refused : {r : Result ℕ Refusal} → utf8 separator ≡ false → r ≡ Err (without_place Number.SeparatorNotUtf8) → Ends r answer after
     unfolding settled
     separator_refused {r} h k x fits i =
-        ap (λ w. leaves r answer w) z ∙ leaves_refusal separator_not_utf8 0 cleared answer k
-        ∙ sym (ap (λ o. settled o cleared answer) (broken_answer x separator maxLevel e h))
+        ap (λ w. leaves r answer w) z ∙ leaves_refusal (without_place Number.SeparatorNotUtf8) cleared answer k
+        ∙ sym (ap (λ o. settled o cleared answer) (broken_answer x separator maxLevel h))
 
-    module _ (h : checked ≡ Valid) {w w' : Bytes} (to : Reach) (f : PutsColumns s separator maxLevel w 3 w' to)
-        {n v : ℕ} (l : n ≡ sheet_length to.written) (m : v ≡ length_number n (length answer)) where
-      sheet_ends : (r : Outcome) (answer' : Bytes)
+    module _ (h : utf8 separator ≡ true) {w w' : Bytes} (to : Reach) (f : PutsColumns s separator maxLevel w 3 w' to)
+        {n : ℕ} (l : n ≡ sheet_length to.written) where
+      sheet_ends : (r : Result ℕ Refusal) (answer' : Bytes)
           → ((x : Schema) → Fits x → s ≡ sheet_bytes x → leaves r answer' cleared ≡ acceptance (sheet_bytes (normalized separator maxLevel x)) cleared answer)
           → Ends r answer' after
       unfolding settled
       sheet_ends r answer' k x fits i =
-          ap (λ w. leaves r answer' w) z ∙ k x fits i ∙ sym (ap (λ o. settled o cleared answer) (valid_answer x separator maxLevel e h))
+          ap (λ w. leaves r answer' w) z ∙ k x fits i ∙ sym (ap (λ o. settled o cleared answer) (valid_answer x separator maxLevel h))
 
       measured : (x : Schema) → Fits x → s ≡ sheet_bytes x → Puts (sheet_bytes (normalized separator maxLevel x)) [] 0 [] n
       unfolding sheet_bytes
       measured x fits i = measured_puts _ (sheet_measured l _ (f x fits i)) (omega arith)
 
-      -- 30 and 31
-      pub length_refused : {r : Outcome} → (v ≡ accepted → ⊥) → r ≡ refused_with v 0 → Ends r answer after
-      length_refused {r} o k = sheet_ends r answer λ x fits i. put_refused _ (measured x fits i) cleared answer m o k
+      module _ {v : Result Unit Refusal} (m : numbered v ≡ unless_refused (length_number n (length answer))) where
+        -- 30 and 31
+        pub length_refused : {r : Result ℕ Refusal} {y : Refusal} → v ≡ Err y → r ≡ Err y → Ends r answer after
+        length_refused {r} o k = sheet_ends r answer λ x fits i. put_refused _ (measured x fits i) cleared answer m o k
 
-      pub length_accepted : {r : Outcome} {answer' : Bytes} {q : ℕ} → v ≡ accepted → PutsNormalized s separator maxLevel to.count answer answer' q → r ≡ accepted_with n
-          → Ends r answer' after
-      length_accepted {r} {answer'} o g k =
-          sheet_ends r answer' λ x fits i.
-          put_accepted _ (measured x fits i) cleared answer m o
-          (g x fits i (columns_counted l _ (f x fits i) (accepted_length n (length answer) m o))) k
+        pub length_accepted : {r : Result ℕ Refusal} {answer' : Bytes} {q : ℕ} → v ≡ Ok tt → PutsNormalized s separator maxLevel to.count answer answer' q → r ≡ Ok n
+            → Ends r answer' after
+        length_accepted {r} {answer'} o g k =
+            sheet_ends r answer' λ x fits i.
+            put_accepted _ (measured x fits i) cleared answer m o
+            (g x fits i (columns_counted l _ (f x fits i) (fitting_length n (length answer) m o))) k

@@ -12,12 +12,10 @@ use Rattle.normalize.specs.declared.Reach.{Reach}
 
 -- Names
 
--- the fields that hold a field at this depth, the outermost first: their heads stand at the places of the path
-pub record Above (s : Bytes) (path : List ℕ) (depth : ℕ) (hs : List Head) : Type 0 where
-  pub size : length path ≡ max_levels
-  pub count : length hs ≡ depth
-  pub few : depth ≤ max_levels
-  pub stand : (i : ℕ) → i < depth → Stands s (get_or path i 0) (head_bytes (get_or hs i blank))
+-- the fields that hold a field, the outermost first: their heads stand at the places of the path
+pub record Above (s : Bytes) (path : List ℕ) (hs : List Head) : Type 0 where
+  pub count : length hs ≡ length path
+  pub stand : (i : ℕ) → i < length path → Stands s (get_or path i 0) (head_bytes (get_or hs i blank))
 
 -- what the name of a column below them begins with: each name, with the separator behind it
 unfoldable pub prefix : Bytes → List Head → Bytes
@@ -54,26 +52,26 @@ module _ (separator : Bytes) where
   abbrev pub columns_of : (maxLevel depth l : ℕ) → (DataType l → DataType max_levels) → List Head → Field l → List (Field max_levels)
   columns_of maxLevel depth l up hs f = expand separator maxLevel l up depth (prefix separator hs ++ f.head.name) f.head f.data_type
 
--- What the walk does at a depth, for any field with those above it
+-- What the walk does below the fields of a path, for any field with those above it
 
-abbrev pub ExpandsColumn : (s separator : Bytes) (path : List ℕ) (depth : ℕ) (w : Bytes) → Reach → Bytes → Reach → Type 0
-ExpandsColumn s separator path depth w from w' to =
+abbrev pub ExpandsColumn : (s separator : Bytes) (path : List ℕ) (w : Bytes) → Reach → Bytes → Reach → Type 0
+ExpandsColumn s separator path w from w' to =
     (l : ℕ) (up : DataType l → DataType max_levels) (hs : List Head) (f : Field l)
-    → l + depth ≤ max_levels → Lifts l up → Above s path depth hs → LaidOut l f.data_type
+    → l + length path ≤ max_levels → Lifts l up → Above s path hs → LaidOut l f.data_type
     → Expands s (field_bytes (type_bytes l) f) (own_column separator l up hs f ∷ []) w from w' to
 
-abbrev pub ExpandsField : (s separator : Bytes) (maxLevel : ℕ) (path : List ℕ) (depth : ℕ) (w : Bytes) → Reach → Bytes → Reach → Type 0
-ExpandsField s separator maxLevel path depth w from w' to =
+abbrev pub ExpandsField : (s separator : Bytes) (maxLevel : ℕ) (path : List ℕ) (w : Bytes) → Reach → Bytes → Reach → Type 0
+ExpandsField s separator maxLevel path w from w' to =
     (l : ℕ) (up : DataType l → DataType max_levels) (hs : List Head) (f : Field l)
-    → l + depth ≤ max_levels → Lifts l up → Above s path depth hs → LaidOut l f.data_type
-    → Expands s (field_bytes (type_bytes l) f) (columns_of separator maxLevel depth l up hs f) w from w' to
+    → l + length path ≤ max_levels → Lifts l up → Above s path hs → LaidOut l f.data_type
+    → Expands s (field_bytes (type_bytes l) f) (columns_of separator maxLevel (length path) l up hs f) w from w' to
 
 -- so many fields
-abbrev pub ExpandsFields : (s separator : Bytes) (maxLevel : ℕ) (path : List ℕ) (depth count : ℕ) (w : Bytes) → Reach → Bytes → Reach → Type 0
-ExpandsFields s separator maxLevel path depth count w from w' to =
+abbrev pub ExpandsFields : (s separator : Bytes) (maxLevel : ℕ) (path : List ℕ) (count : ℕ) (w : Bytes) → Reach → Bytes → Reach → Type 0
+ExpandsFields s separator maxLevel path count w from w' to =
     (l : ℕ) (up : DataType l → DataType max_levels) (hs : List Head) (ks : List (Field l))
-    → l + depth ≤ max_levels → Lifts l up → Above s path depth hs → length ks ≡ count → AllLaidOut l ks
-    → Expands s (each (field_bytes (type_bytes l)) ks) (join (columns_of separator maxLevel depth l up hs) ks) w from w' to
+    → l + length path ≤ max_levels → Lifts l up → Above s path hs → length ks ≡ count → AllLaidOut l ks
+    → Expands s (each (field_bytes (type_bytes l)) ks) (join (columns_of separator maxLevel (length path) l up hs) ks) w from w' to
 
 -- The sheet
 

@@ -3,8 +3,8 @@
 // as it is written. The columns are gone over twice: into a buffer of no bytes for their length and number, then into the answer buffer.
 #![tactic(auto)]
 
-ghost use Rattle.std.specs.Prelude.{◌≡◌, List, ◌++◌, ◌&&◌, ◌||◌, ◌+◌, ◌<◌, length, get_or, set, eqb, ltb};
-ghost use Rattle.model.specs.Numbers.{max_levels, max_sheet_bytes};
+ghost use Rattle.std.specs.Prelude.{◌≡◌, ℕ, List, [], ◌∷◌, ◌++◌, ◌&&◌, ◌||◌, ◌≤◌, ◌<◌, length, take, eqb, ltb, MatchOption};
+ghost use Rattle.model.specs.Numbers.{max_levels};
 ghost use Rattle.model.specs.Tree.{Head, Schema, Struct};
 ghost use Rattle.model.specs.Sheet.{head_bytes, sheet_bytes};
 ghost use Rattle.model.specs.WellFormed.{Fits};
@@ -15,15 +15,11 @@ ghost use Rattle.buffer.specs.Leaves.{leaves};
 ghost use Rattle.walk.specs.Stands.{Stands};
 ghost use Rattle.normalize.specs.Expands.{Above, prefix, Measures, ExpandsColumn, ExpandsField, ExpandsFields, PutsColumns, sheet_length, PutsNormalized};
 
-use buffer::Outcome;
-use sheet::{Cursor, Step};
-use text::Text;
-
-// The code of the type that is expanded, in the order of `DataType`.
-const STRUCT: usize = 32;
-
-// "separator not UTF-8"
-const SEPARATOR_NOT_UTF8: u8 = 18;
+use buffer::{Number, Refusal};
+use layout::STRUCT;
+use sheet::Cursor;
+use std::marker::Model;
+use walk::Elements;
 
 // How far a walk came: the place in the sheet, the position in the answer, and the number of columns before it.
 #[derive(Clone, Copy)]
@@ -33,247 +29,56 @@ struct Reach {
     count: usize,
 }
 
-// The place of the field at a depth of a path.
-fn place_at(path: &[usize; Cursor::LEVELS], depth: usize) -> usize
-    ensures { depth < max_levels → result ≡ get_or path.now depth 0 }
-{
-    if Cursor::LEVELS <= depth {
-        return 0;
-    }
-    path[depth]
-}
-
-// The path of a field's children: its own place is added at its depth.
-fn below(path: &[usize; Cursor::LEVELS], depth: usize, at: usize) -> [usize; Cursor::LEVELS]
-    ensures { depth < max_levels → result ≡ set path.now depth at }
-{
-    let mut longer = *path;
-    if Cursor::LEVELS <= depth {
-        return longer;
-    }
-    longer[depth] = at;
-    longer
-}
-
-// The name of the field that stands at a place, without its length.
-fn put_own_name(w: &mut [u8], pos: usize, s: &[u8], at: usize) -> usize
-    ensures { (h : Head) → Stands s.now at (head_bytes h) → Puts h.name w.old pos w.new result }
-{
-    if walk::byte(s, at) / 4 % 2 == 1 {
-        let text = walk::ahead(s, at, 1);
-        let body = walk::ahead(s, text, 2);
-        let end = walk::skip_text(s, text);
-        return walk::put_part(w, pos, s, body, end);
-    }
-    pos
-}
-
-// The names of the fields above, the outermost first, each with the separator behind it.
-fn put_prefix(
-    w: &mut [u8],
-    pos: usize,
-    s: &[u8],
-    separator: &[u8],
-    path: &[usize; Cursor::LEVELS],
+// The places of the fields above a field, the outermost first. No field of a sheet that was read has more.
+#[derive(Drop)]
+struct Path {
+    places: [usize; Cursor::LEVELS],
     depth: usize,
-) -> usize
-    ensures { (hs : List Head) → Above s.now path.now depth hs → Puts (prefix separator.now hs) w.old pos w.new result }
-{
-    let mut written = pos;
-    let mut i = 0;
-    while i < depth {
-        let named = put_own_name(w, written, s, place_at(path, i));
-        written = buffer::put(w, named, separator);
-        i += 1;
-    }
-    written
 }
 
-// The name of a column, without its length.
-fn put_name(
-    w: &mut [u8],
-    pos: usize,
-    s: &[u8],
-    at: usize,
-    separator: &[u8],
-    path: &[usize; Cursor::LEVELS],
-    depth: usize,
-) -> usize
-    ensures { (hs : List Head) (h : Head) → Above s.now path.now depth hs → Stands s.now at (head_bytes h) → Puts (prefix separator.now hs ++ h.name) w.old pos w.new result }
-{
-    let own = put_prefix(w, pos, s, separator, path, depth);
-    put_own_name(w, own, s, at)
+impl Model for Path {
+    ghost Value = { List ℕ };
+
+    ghost view = { λ p. take p.depth p.places };
+
+    ghost invariant = { λ p. p.depth ≤ max_levels };
 }
 
-// The length of a column's name, which stands before it. A separator may be as long as memory, so it is counted as the name is written.
-fn name_length(
-    s: &[u8],
-    at: usize,
-    separator: &[u8],
-    path: &[usize; Cursor::LEVELS],
-    depth: usize,
-) -> usize
-    ensures { (hs : List Head) (h : Head) → Above s.now path.now depth hs → Stands s.now at (head_bytes h) → Measures (prefix separator.now hs ++ h.name) result }
-{
-    let mut none = [0u8; 0];
-    put_name(&mut none, 0, s, at, separator, path, depth)
-}
-
-// A column's head: "written columns lose metadata and order flag, keep their own nullability", and lose the dictionary number. A name that comes out empty has its bit clear.
-fn put_head(
-    w: &mut [u8],
-    pos: usize,
-    s: &[u8],
-    at: usize,
-    separator: &[u8],
-    path: &[usize; Cursor::LEVELS],
-    depth: usize,
-) -> usize
-    ensures { (hs : List Head) (h : Head) → Above s.now path.now depth hs → Stands s.now at (head_bytes h) → Puts (head_bytes (schemas.plain_head (prefix separator.now hs ++ h.name) h)) w.old pos w.new result }
-{
-    let nullable = walk::byte(s, at) % 2;
-    let length = name_length(s, at, separator, path, depth);
-    if length == 0 {
-        return buffer::put_one(w, pos, nullable as u8);
-    }
-    let text = buffer::put_one(w, pos, (nullable + 4) as u8);
-    let body = buffer::put_two(w, text, length);
-    put_name(w, body, s, at, separator, path, depth)
-}
-
-// One more column. A count above 65,535 stands in no accepted answer, so it stops there.
-fn one_more(count: usize) -> usize
-    ensures { count < max_sheet_bytes → result ≡ count + 1 }
-{
-    if buffer::MAX_ANSWER_BYTES <= count {
-        return count;
-    }
-    count + 1
-}
-
-// A field that is a column itself: its head, then its type as it stands.
-fn put_column(
-    w: &mut [u8],
-    from: Reach,
-    s: &[u8],
-    separator: &[u8],
-    path: &[usize; Cursor::LEVELS],
-    depth: usize,
-) -> Reach
-    ensures { ExpandsColumn s.now separator.now path.now depth w.old from w.new result }
-{
-    let place = from.place;
-    let data_type = walk::skip_head(s, place);
-    let end = walk::skip_type(s, data_type, Cursor::LEVELS);
-    let headed = put_head(w, from.written, s, place, separator, path, depth);
-    let written = walk::put_part(w, headed, s, data_type, end);
-    Reach {
-        place: end,
-        written,
-        count: one_more(from.count),
-    }
-}
-
-// Whether a field at a depth is expanded whose type has this code: "the level is a u16, and 0 means no limit".
-fn expands(code: usize, max_level: u16, depth: usize) -> bool
-    ensures { result ≡ (eqb code Struct && (eqb max_level 0 || ltb depth max_level)) }
-{
-    if code != STRUCT {
-        return false;
-    }
-    if max_level == 0 {
-        return true;
-    }
-    depth < max_level as usize
-}
-
-// A turn of the Rust's loop, for a field at a depth: a Struct that is expanded becomes the columns of its children, any other field is one
-// column. No field of a sheet that was read is deeper than a path is long.
-#[cycle(expanding)]
-fn expand_field(
-    w: &mut [u8],
-    from: Reach,
-    s: &[u8],
-    separator: &[u8],
-    max_level: u16,
-    path: &[usize; Cursor::LEVELS],
-    depth: usize,
-) -> Reach
-    ensures { ExpandsField s.now separator.now max_level path.now depth w.old from w.new result }
-{
-    if Cursor::LEVELS <= depth {
-        return from;
-    }
-    let place = from.place;
-    let data_type = walk::skip_head(s, place);
-    if expands(walk::byte(s, data_type), max_level, depth) {
-        let counted = walk::ahead(s, data_type, 1);
-        let count = walk::two(s, counted);
-        let first = Reach {
-            place: walk::ahead(s, counted, 2),
-            written: from.written,
-            count: from.count,
-        };
-        let longer = below(path, depth, place);
-        return expand_fields(w, first, s, count, separator, max_level, &longer, depth + 1);
-    }
-    put_column(w, from, s, separator, path, depth)
-}
-
-// So many fields, one behind the other. It stops once they are known to pass the longest answer.
-#[cycle(expanding)]
-fn expand_fields(
-    w: &mut [u8],
-    from: Reach,
-    s: &[u8],
-    count: usize,
-    separator: &[u8],
-    max_level: u16,
-    path: &[usize; Cursor::LEVELS],
-    depth: usize,
-) -> Reach
-    ensures { ExpandsFields s.now separator.now max_level path.now depth count w.old from w.new result }
-{
-    let mut reach = from;
-    let mut left = count;
-    while 0 < left {
-        reach = expand_field(w, reach, s, separator, max_level, path, depth);
-        if buffer::MAX_ANSWER_BYTES < reach.written {
-            return reach;
+impl Path {
+    // That of a column: no field is above it.
+    fn new() -> Self
+        ensures { result ≡ [] }
+    {
+        Self {
+            places: [0; Cursor::LEVELS],
+            depth: 0,
         }
-        left -= 1;
     }
-    reach
-}
 
-// All columns, from a position of the answer on.
-fn put_columns(w: &mut [u8], pos: usize, s: &[u8], separator: &[u8], max_level: u16) -> Reach
-    ensures { PutsColumns s.now separator.now max_level w.old pos w.new result }
-{
-    let columns = walk::find_columns(s, 0);
-    let first = Reach {
-        place: columns.at,
-        written: pos,
-        count: 0,
-    };
-    let path = [0usize; Cursor::LEVELS];
-    expand_fields(w, first, s, columns.count, separator, max_level, &path, 0)
-}
-
-// The normalised sheet, where it has so many columns: "schema metadata goes".
-fn put_normalized(w: &mut [u8], s: &[u8], separator: &[u8], max_level: u16, count: usize) -> usize
-    ensures { PutsNormalized s.now separator.now max_level count w.old w.new result }
-{
-    if count == 0 {
-        return buffer::put_one(w, 0, 0);
+    fn places(&self) -> &[usize]
+        ensures { result.now ≡ self.now }
+    {
+        &self.places[..self.depth]
     }
-    let counted = buffer::put_one(w, 0, 2);
-    let first = buffer::put_two(w, counted, count);
-    let reach = put_columns(w, first, s, separator, max_level);
-    reach.written
+
+    // The path of the children of a field that stands at a place, unless no field is so deep.
+    fn below(&self, at: usize) -> Option<Self>
+        ensures { MatchOption result (max_levels ≤ length self.now) (λ p. (length self.now < max_levels) × (p ≡ self.now ++ at ∷ [])) }
+    {
+        if Cursor::LEVELS <= self.depth {
+            return None;
+        }
+        let mut places = self.places;
+        places[self.depth] = at;
+        Some(Self {
+            places,
+            depth: self.depth + 1,
+        })
+    }
 }
 
 // The length of a sheet whose columns, behind its map and their count, reach so far: without a column it is its map alone.
+#[tactic(auto, using(crate::proofs::Sheets::short_sheet, crate::proofs::Sheets::long_sheet))]
 fn sheet_length(end: usize) -> usize
     ensures { result ≡ sheet_length end }
 {
@@ -283,30 +88,170 @@ fn sheet_length(end: usize) -> usize
     end
 }
 
-// The parameters and the answer of a call on a sheet that was read: 18, 30, 31, or acceptance.
-fn answer_normalized(
-    sheet: &[u8],
-    separator: &[u8],
+// What is expanded, a sheet, and how: the separator between the parts of a name, and the level where it ends.
+#[derive(Clone, Copy)]
+struct Expansion<'a> {
+    sheet: &'a [u8],
+    separator: &'a [u8],
     max_level: u16,
-    work: &mut [u8],
-    answer: &mut [u8],
-) -> Outcome
-    ensures { (x : Schema) → Fits x → sheet.now ≡ sheet_bytes x → leaves result answer.new work.new ≡ settled (sheet_answer (schemas.normalize x separator.now max_level)) (zeros (length work.old)) answer.old }
-{
-    let checked = text::check(separator);
-    let Text::Valid = checked else {
-        return buffer::refuse(work, SEPARATOR_NOT_UTF8, 0);
-    };
-    let mut none = [0u8; 0];
-    let columns = put_columns(&mut none, 3, sheet, separator, max_level);
-    let length = sheet_length(columns.written);
-    let number = buffer::length_number(length, answer.len());
-    if number != Outcome::ACCEPTED {
-        return buffer::refuse(work, number, 0);
+}
+
+impl Expansion<'_> {
+    // The name of the field that stands at a place, without its length.
+    fn put_own_name(&self, w: &mut [u8], pos: usize, at: usize) -> usize
+        ensures { (h : Head) → Stands self.now.sheet.now at (head_bytes h) → Puts h.name w.old pos w.new result }
+    {
+        if walk::bit(walk::byte(self.sheet, at), 2) {
+            let text = walk::ahead(self.sheet, at, 1);
+            let body = walk::ahead(self.sheet, text, 2);
+            let end = walk::skip_text(self.sheet, text);
+            return walk::put_part(w, pos, self.sheet, body, end);
+        }
+        pos
     }
-    put_normalized(answer, sheet, separator, max_level, columns.count);
-    buffer::clear(work);
-    Outcome::accepted(length)
+
+    // The names of the fields above, the outermost first, each with the separator behind it.
+    fn put_prefix(&self, w: &mut [u8], pos: usize, path: &Path) -> usize
+        ensures { (hs : List Head) → Above self.now.sheet.now path.now hs → Puts (prefix self.now.separator.now hs) w.old pos w.new result }
+    {
+        let mut written = pos;
+        for &place in path.places() {
+            let named = self.put_own_name(w, written, place);
+            written = buffer::put(w, named, self.separator);
+        }
+        written
+    }
+
+    // The name of a column, without its length.
+    fn put_name(&self, w: &mut [u8], pos: usize, at: usize, path: &Path) -> usize
+        ensures { (hs : List Head) (h : Head) → Above self.now.sheet.now path.now hs → Stands self.now.sheet.now at (head_bytes h) → Puts (prefix self.now.separator.now hs ++ h.name) w.old pos w.new result }
+    {
+        let own = self.put_prefix(w, pos, path);
+        self.put_own_name(w, own, at)
+    }
+
+    // The length of a column's name, which stands before it. A separator may be as long as memory, so it is counted as the name is written.
+    fn name_length(&self, at: usize, path: &Path) -> usize
+        ensures { (hs : List Head) (h : Head) → Above self.now.sheet.now path.now hs → Stands self.now.sheet.now at (head_bytes h) → Measures (prefix self.now.separator.now hs ++ h.name) result }
+    {
+        self.put_name(&mut [], 0, at, path)
+    }
+
+    // A column's head: "written columns lose metadata and order flag, keep their own nullability", and lose the dictionary number. A name
+    // that comes out empty has its bit clear.
+    fn put_head(&self, w: &mut [u8], pos: usize, at: usize, path: &Path) -> usize
+        ensures { (hs : List Head) (h : Head) → Above self.now.sheet.now path.now hs → Stands self.now.sheet.now at (head_bytes h) → Puts (head_bytes (schemas.plain_head (prefix self.now.separator.now hs ++ h.name) h)) w.old pos w.new result }
+    {
+        let nullable = walk::byte(self.sheet, at) % 2;
+        let length = self.name_length(at, path);
+        if length == 0 {
+            return buffer::put_one(w, pos, nullable as u8);
+        }
+        let text = buffer::put_one(w, pos, (nullable + 4) as u8);
+        let body = buffer::put_two(w, text, length);
+        self.put_name(w, body, at, path)
+    }
+
+    // A field that is a column itself: its head, then its type as it stands.
+    fn put_column(&self, w: &mut [u8], from: Reach, path: &Path) -> Reach
+        ensures { ExpandsColumn self.now.sheet.now self.now.separator.now path.now w.old from w.new result }
+    {
+        let data_type = walk::skip_head(self.sheet, from.place);
+        let end = walk::skip_type(self.sheet, data_type, Cursor::LEVELS);
+        let headed = self.put_head(w, from.written, from.place, path);
+        Reach {
+            place: end,
+            written: walk::put_part(w, headed, self.sheet, data_type, end),
+            count: from.count.saturating_add(1),
+        }
+    }
+
+    // Whether a field at a depth is expanded whose type has this code: "the level is a u16, and 0 means no limit".
+    fn expands(&self, code: usize, depth: usize) -> bool
+        ensures { result ≡ (eqb code Struct && (eqb self.now.max_level 0 || ltb depth self.now.max_level)) }
+    {
+        code == STRUCT && (self.max_level == 0 || depth < usize::from(self.max_level))
+    }
+
+    // A turn of the Rust's loop: a Struct that is expanded becomes the columns of its children, any other field is one column.
+    #[cycle(expanding)]
+    fn expand_field(&self, w: &mut [u8], from: Reach, path: &Path) -> Reach
+        ensures { ExpandsField self.now.sheet.now self.now.separator.now self.now.max_level path.now w.old from w.new result }
+    {
+        let data_type = walk::skip_head(self.sheet, from.place);
+        if !self.expands(walk::byte(self.sheet, data_type), path.places().len()) {
+            return self.put_column(w, from, path);
+        }
+        let Some(longer) = path.below(from.place) else {
+            return from;
+        };
+        let fields = Elements::counted(self.sheet, walk::ahead(self.sheet, data_type, 1));
+        let first = Reach {
+            place: fields.at,
+            ..from
+        };
+        self.expand_fields(w, first, fields.count, &longer)
+    }
+
+    // So many fields, one behind the other. It stops once they are known to pass the longest answer.
+    #[cycle(expanding)]
+    fn expand_fields(&self, w: &mut [u8], from: Reach, count: usize, path: &Path) -> Reach
+        ensures { ExpandsFields self.now.sheet.now self.now.separator.now self.now.max_level path.now count w.old from w.new result }
+    {
+        let mut reach = from;
+        for _ in 0..count {
+            reach = self.expand_field(w, reach, path);
+            if buffer::MAX_ANSWER_BYTES < reach.written {
+                return reach;
+            }
+        }
+        reach
+    }
+
+    // All columns, from a position of the answer on.
+    fn put_columns(&self, w: &mut [u8], pos: usize) -> Reach
+        ensures { PutsColumns self.now.sheet.now self.now.separator.now self.now.max_level w.old pos w.new result }
+    {
+        let columns = walk::find_columns(self.sheet, 0);
+        let first = Reach {
+            place: columns.at,
+            written: pos,
+            count: 0,
+        };
+        self.expand_fields(w, first, columns.count, &Path::new())
+    }
+
+    // The normalised sheet, where it has so many columns: "schema metadata goes".
+    fn put_normalized(&self, w: &mut [u8], count: usize) -> usize
+        ensures { PutsNormalized self.now.sheet.now self.now.separator.now self.now.max_level count w.old w.new result }
+    {
+        if count == 0 {
+            return buffer::put_one(w, 0, 0);
+        }
+        let counted = buffer::put_one(w, 0, 2);
+        let first = buffer::put_two(w, counted, count);
+        let reach = self.put_columns(w, first);
+        reach.written
+    }
+
+    // The parameters and the answer of a call whose sheet was read: 18, 30, 31, or acceptance.
+    fn answer(&self, work: &mut [u8], answer: &mut [u8]) -> Result<usize, Refusal>
+        ensures { (x : Schema) → Fits x → self.now.sheet.now ≡ sheet_bytes x → leaves result answer.new work.new ≡ settled (sheet_answer (schemas.normalize x self.now.separator.now self.now.max_level)) (zeros (length work.old)) answer.old }
+    {
+        if text::check(self.separator).is_err() {
+            return buffer::refuse(work, Refusal::from(Number::SeparatorNotUtf8));
+        }
+        let columns = self.put_columns(&mut [], 3);
+        let length = sheet_length(columns.written);
+        match buffer::length_fits(length, answer.len()) {
+            Err(refusal) => buffer::refuse(work, refusal),
+            Ok(()) => {
+                self.put_normalized(answer, columns.count);
+                buffer::clear(work);
+                Ok(length)
+            }
+        }
+    }
 }
 
 // `Schema::normalize`.
@@ -316,14 +261,19 @@ pub fn normalize(
     max_level: u16,
     work: &mut [u8],
     answer: &mut [u8],
-) -> Outcome
+) -> Result<usize, Refusal>
     ensures { leaves result answer.new work.new ≡ normalize_call sheet.now separator.now max_level work.old answer.old }
 {
-    if buffer::lacks_room(work.len(), sheet.len()) {
-        return Outcome::refused(Outcome::WORK_BUFFER_SHORT, 0);
-    }
+    buffer::work_fits(work.len(), sheet.len())?;
     match sheet::read_sheet(sheet) {
-        Step::Refused(number, place) => buffer::refuse(work, number, place),
-        Step::Next(_) => answer_normalized(sheet, separator, max_level, work, answer),
+        Err(refusal) => buffer::refuse(work, refusal),
+        Ok(_) => {
+            let expansion = Expansion {
+                sheet,
+                separator,
+                max_level,
+            };
+            expansion.answer(work, answer)
+        }
     }
 }

@@ -3,11 +3,13 @@ use Prim.Native.Nat.{ℕ, ◌+◌, ◌*◌, ◌/◌, ◌%◌, ◌≤◌, ◌<◌
 use native.Mathlib.Omega.{arith}
 use mathlib.Core.Path.{◌≡◌, refl, sym, ap, subst, ◌∙◌}
 use mathlib.Core.List.{List, [], ◌∷◌, ◌++◌, append_assoc, append-nil}
-use mathlib.Core.Bool.{Bool, true, false}
+use mathlib.Core.Bool.{Bool, true, false, not}
 use lib.ListN.{length, drop, get_or, length-append}
 use lib.Dec.{eqb}
+use borrow.Author.Tests.{eqb-true, eqb-false}
+use mir.Val.{bool_byte}
 use Rattle.model.specs.Numbers.{max_levels, max_sheet_bytes}
-use Rattle.model.specs.Bytes.{Bytes, Metadata, Every, flag, u16}
+use Rattle.model.specs.Bytes.{Bytes, Metadata, Every, bit, flag, u16}
 use Rattle.model.specs.Tree.{Field, Schema}
 use Rattle.model.specs.Sheet.{each, part, stands, with_count, pair_bytes, column_bytes, sheet_bytes}
 use Rattle.model.specs.Read.{got}
@@ -19,7 +21,7 @@ use Rattle.buffer.specs.Puts.{Puts}
 use Rattle.buffer.proofs.Puts.{puts_none, puts_beyond, puts_same, puts_as, puts_join, two_bytes_lem}
 use Rattle.walk.specs.Stands.{Stands, Skips}
 use Rattle.walk.proofs.Standing.{whole_stands, first_stands, second_stands, byte_stands}
-use Rattle.walk.proofs.Parts.{sheet_metadata_bit}
+use Rattle.walk.proofs.Parts.{part_if, sheet_metadata_set}
 use Rattle.walk.proofs.Schemas.{sheet_columns}
 use Rattle.project.specs.Table.{Table, place_at}
 
@@ -28,9 +30,8 @@ use Rattle.project.specs.Table.{Table, place_at}
 abbrev PutsPart : (s : Bytes) (from to : ℕ) (w : Bytes) (p : ℕ) (w' : Bytes) (q : ℕ) → Type 0
 PutsPart s from to w p w' q = (b : Bytes) → Stands s from b → to ≡ from + length b → Puts b w p w' q
 
-abbrev PutsFront : (s : Bytes) (map : ℕ) (w w' : Bytes) (q : ℕ) → Type 0
-PutsFront s map w w' q =
-    (x : Schema) (b : Bool) → s ≡ sheet_bytes x → map ≡ flag 1 (stands x.metadata) + flag 2 b → Puts (map ∷ part (with_count pair_bytes) x.metadata) w 0 w' q
+abbrev PutsFront : (s : Bytes) (columns : Bool) (w w' : Bytes) (q : ℕ) → Type 0
+PutsFront s columns w w' q = (x : Schema) → s ≡ sheet_bytes x → Puts ((flag 1 (stands x.metadata) + flag 2 columns) ∷ part (with_count pair_bytes) x.metadata) w 0 w' q
 
 abbrev PutsColumns : (s table list : Bytes) (w : Bytes) (p : ℕ) (w' : Bytes) (q : ℕ) → Type 0
 PutsColumns s table list w p w' q =
@@ -42,16 +43,25 @@ PutsSheet s table list w w' q =
 
 -- The map and the metadata
 
-pub front_put : {s : Bytes} {map end : ℕ} {w w₁ w₂ : Bytes} {p q : ℕ}
-    → ((m : Metadata) → stands m ≡ eqb (map % 2) 1 → Skips s 1 (part (with_count pair_bytes) m) end)
-    → Puts (map ∷ []) w 0 w₁ p → PutsPart s 1 end w₁ p w₂ q → PutsFront s map w w₂ q
+pub bits_added : (a b : Bool) → bool_byte a + 2 * bool_byte b ≡ flag 1 a + flag 2 b
+bits_added true true = refl
+bits_added true false = refl
+bits_added false true = refl
+bits_added false false = refl
+
+pub front_put : (columns : Bool) {s : Bytes} {map n end : ℕ} {metadata : Bool} {w w₁ w₂ : Bytes} {p q : ℕ} → map ≡ get_or s 0 0 → metadata ≡ bit 0 map
+    → (metadata ≡ true → (m : Metadata) → Skips s 1 (with_count pair_bytes m) end) → (metadata ≡ false → end ≡ 1)
+    → n ≡ flag 1 metadata + flag 2 columns → Puts (n ∷ []) w 0 w₁ p → PutsPart s 1 end w₁ p w₂ q → PutsFront s columns w w₂ q
 unfolding sheet_bytes
-front_put {s} {map} {end} skip one more x b e h =
+front_put columns {s} {w = w} {w₂ = w₂} {q = q} a b set unset c one more x e =
+    let whole = whole_stands s (sheet_bytes x) e in
     let st : Stands s 1 (part (with_count pair_bytes) x.metadata) =
     first_stands (part (with_count pair_bytes) x.metadata) (part (with_count column_bytes) x.columns)
-    (second_stands (_ ∷ []) (part (with_count pair_bytes) x.metadata ++ part (with_count column_bytes) x.columns) (whole_stands s (sheet_bytes x) e)) in
-    let bit : stands x.metadata ≡ eqb (map % 2) 1 = sym (ap (λ n. eqb (n % 2) 1) h ∙ sheet_metadata_bit (stands x.metadata) b) in
-    puts_join (map ∷ []) (part (with_count pair_bytes) x.metadata) one (more _ st ((skip x.metadata bit).behind st))
+    (second_stands (_ ∷ []) (part (with_count pair_bytes) x.metadata ++ part (with_count column_bytes) x.columns) whole) in
+    let was = b ∙ ap (bit 0) (a ∙ byte_stands whole) ∙ sheet_metadata_set (stands x.metadata) (stands x.columns) in
+    let end = (part_if (with_count pair_bytes) _ set unset x.metadata (sym was)).behind st in
+    subst (λ n. Puts (n ∷ part (with_count pair_bytes) x.metadata) w 0 w₂ q) (c ∙ ap (λ m. flag 1 m + flag 2 columns) was)
+    (puts_join (_ ∷ []) (part (with_count pair_bytes) x.metadata) one (more _ st end))
 
 -- The columns
 
@@ -120,55 +130,43 @@ module _ {s table list w : Bytes} {p : ℕ} {w₁ : Bytes} {q e : ℕ} (k : Putt
 
 -- The sheet
 
-low_bit : (a b : Bool) → (flag 1 a + flag 2 b) % 2 ≡ flag 1 a
-low_bit true true = refl
-low_bit true false = refl
-low_bit false true = refl
-low_bit false false = refl
-
-module _ {s : Bytes} {map : ℕ} (e : map ≡ get_or s 0 0 % 2) where
-  -- the bit for the metadata is as it was
-  map_is : (x : Schema) → s ≡ sheet_bytes x → map ≡ flag 1 (stands x.metadata)
-  unfolding sheet_bytes
-  map_is x i = e ∙ ap (λ n. n % 2) (byte_stands (whole_stands s (sheet_bytes x) i)) ∙ low_bit (stands x.metadata) (stands x.columns)
-
+module _ {s : Bytes} where
   -- a list of no entries
-  pub sheet_none : {table : Bytes} (list : Bytes) {w w' : Bytes} {r : ℕ} → length list ≡ 0 → PutsFront s map w w' r → PutsSheet s table list w w' r
+  pub sheet_none : {table : Bytes} (list : Bytes) {none : Bool} {w w' : Bytes} {r : ℕ} → none ≡ eqb (length list) 0 → none ≡ true → PutsFront s (not none) w w' r → PutsSheet s table list w w' r
   unfolding sheet_bytes
-  sheet_none list none front x y strict n i tab h =
+  sheet_none list {w = w} {w' = w'} {r = r} e t put x y strict n i tab h =
+      let front = subst (λ b. PutsFront s b w w' r) (ap not t) put in
+      let none = eqb-true (length list) 0 (sym e ∙ t) in
       let a = project_accepted strict x list y n h in
-      let bits : map ≡ flag 1 (stands x.metadata) + 0 = omega (arith, map_is x i) in
-      puts_same (go bits y.metadata y.columns a.metadata (omega (arith, a.column_count, a.two_bytes_each, none))) (front x false i bits)
+      puts_same (go y.metadata y.columns a.metadata (omega (arith, a.column_count, a.two_bytes_each, none))) (front x i)
     where
-      go : map ≡ flag 1 (stands x.metadata) + 0 → (m : Metadata) (cs : List (Field max_levels)) → m ≡ x.metadata → length cs ≡ 0
-          → (map ∷ part (with_count pair_bytes) x.metadata) ≡ sheet_bytes (record { metadata = m; columns = cs })
-      go bits m [] f k =
-          ap (λ n. n ∷ part (with_count pair_bytes) x.metadata) bits
-          ∙ ap (λ b. (flag 1 (stands x.metadata) + 0) ∷ b) (sym (append-nil (part (with_count pair_bytes) x.metadata)))
+      go : (m : Metadata) (cs : List (Field max_levels)) → m ≡ x.metadata → length cs ≡ 0
+          → ((flag 1 (stands x.metadata) + 0) ∷ part (with_count pair_bytes) x.metadata) ≡ sheet_bytes (record { metadata = m; columns = cs })
+      go m [] f k =
+          ap (λ b. (flag 1 (stands x.metadata) + 0) ∷ b) (sym (append-nil (part (with_count pair_bytes) x.metadata)))
           ∙ ap (λ m. (flag 1 (stands m) + 0) ∷ (part (with_count pair_bytes) m ++ [])) (sym f)
-      go bits m (c ∷ cs) f k = absurd (omega (arith, k))
+      go m (c ∷ cs) f k = absurd (omega (arith, k))
 
   -- any other list
-  pub sheet_some : {table : Bytes} (list : Bytes) {w w₁ w₂ w₃ : Bytes} {p q r : ℕ} → (length list ≡ 0 → ⊥) → PutsFront s (map + 2) w w₁ p
+  pub sheet_some : {table : Bytes} (list : Bytes) {none : Bool} {w w₁ w₂ w₃ : Bytes} {p q r : ℕ} → none ≡ eqb (length list) 0 → none ≡ false → PutsFront s (not none) w w₁ p
       → Puts (length list / 2 % 256 ∷ length list / 2 / 256 % 256 ∷ []) w₁ p w₂ q
       → PutsColumns s table list w₂ q w₃ r → PutsSheet s table list w w₃ r
   unfolding sheet_bytes with_count u16
-  sheet_some list {w = w} {w₃ = w₃} {r = r} some front two columns x y strict n i tab h =
+  sheet_some list {none} {w} {w₁ = w₁} {w₃ = w₃} {p = p} {r = r} e t put two columns x y strict n i tab h =
+      let front = subst (λ b. PutsFront s b w w₁ p) (ap not t) put in
       let a = project_accepted strict x list y n h in
-      let bits : map + 2 ≡ flag 1 (stands x.metadata) + 2 = omega (arith, map_is x i) in
-      let f = puts_join _ _ (front x true i bits) (puts_join _ _ two (columns x y strict n tab h)) in
-      go bits y.metadata y.columns a.metadata (omega (arith, a.column_count, a.two_bytes_each)) f
+      let f = puts_join _ _ (front x i) (puts_join _ _ two (columns x y strict n tab h)) in
+      go y.metadata y.columns a.metadata (omega (arith, a.column_count, a.two_bytes_each)) f
     where
       -- the count's bytes are two either way, and the right ones where the answer is not too long, since a column has a byte at least
-      go : map + 2 ≡ flag 1 (stands x.metadata) + 2 → (m : Metadata) (cs : List (Field max_levels)) → m ≡ x.metadata → length list ≡ 2 * length cs
-          → Puts (((map + 2) ∷ part (with_count pair_bytes) x.metadata) ++ ((length list / 2 % 256 ∷ length list / 2 / 256 % 256 ∷ []) ++ each column_bytes cs)) w 0 w₃ r
+      go : (m : Metadata) (cs : List (Field max_levels)) → m ≡ x.metadata → length list ≡ 2 * length cs
+          → Puts (((flag 1 (stands x.metadata) + 2) ∷ part (with_count pair_bytes) x.metadata) ++ ((length list / 2 % 256 ∷ length list / 2 / 256 % 256 ∷ []) ++ each column_bytes cs)) w 0 w₃ r
           → Puts (sheet_bytes (record { metadata = m; columns = cs })) w 0 w₃ r
-      go bits m [] g k f = absurd (some (omega (arith, k)))
-      go bits m (c ∷ cs) g k f =
+      go m [] g k f = absurd (eqb-false (length list) 0 (sym e ∙ t) (omega (arith, k)))
+      go m (c ∷ cs) g k f =
           puts_as (sheet lower) (sheet (u16 (length (c ∷ cs)))) (omega (arith, sizes lower, sizes (u16 (length (c ∷ cs)))))
           (λ small. ap sheet (two_bytes_lem (length list / 2) (omega (arith, k, small, sheet_columns (record { metadata = m; columns = c ∷ cs }))) ∙ ap u16 count))
-          (puts_same (ap (λ n. n ∷ (part (with_count pair_bytes) x.metadata ++ (lower ++ each column_bytes (c ∷ cs)))) bits
-          ∙ ap (λ m. (flag 1 (stands m) + 2) ∷ (part (with_count pair_bytes) m ++ (lower ++ each column_bytes (c ∷ cs)))) (sym g)) f)
+          (puts_same (ap (λ m. (flag 1 (stands m) + 2) ∷ (part (with_count pair_bytes) m ++ (lower ++ each column_bytes (c ∷ cs)))) (sym g)) f)
         where
           -- the two lower bytes of the count
           lower : Bytes

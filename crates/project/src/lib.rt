@@ -13,94 +13,78 @@ ghost use Rattle.model.specs.Read.{got};
 ghost use Rattle.model.specs.Schema.{project};
 ghost use Rattle.model.specs.Call.{sheet_answer, acceptance, settled, zeros, project_call};
 ghost use Rattle.buffer.specs.Puts.{Puts};
+ghost use Rattle.buffer.specs.Refusals.{numbered};
 ghost use Rattle.buffer.specs.Leaves.{leaves};
 ghost use Rattle.walk.specs.Stands.{Stands};
 ghost use Rattle.project.specs.Answers.{checked_of, verdict_of};
 ghost use Rattle.project.specs.Seen.{index_fits_by, marked};
 ghost use Rattle.project.specs.Table.{Table};
 
-use buffer::Outcome;
-use sheet::{Cursor, Step};
-
-// What the check of an entry, or of a list of entries, answers: a refusal is its number and its place.
-#[derive(Clone, Copy)]
-pub enum Checked {
-    Valid,
-    Refused(u8, usize),
-}
-
-// The numbers of the refusals.
-const INDEX_OUT_OF_BOUNDS: u8 = 10;
-
-const INDEX_REPEATED: u8 = 11;
-
-const ODD_LIST: u8 = 17;
+use buffer::{Number, Refusal};
+use sheet::Cursor;
+use walk::Elements;
 
 // Writes a place as entry i of a table: its two lower bytes.
 fn put_place(work: &mut [u8], i: usize, place: usize)
     requires { 2 * i + 2 ≤ length work.old }
     ensures { work.new ≡ set (set work.old (2 * i) (place % 256)) (2 * i + 1) (place / 256 % 256) }
 {
-    work[2 * i] = (place % 256) as u8;
-    work[2 * i + 1] = (place / 256 % 256) as u8;
+    let [low, high, ..] = place.to_le_bytes();
+    work[2 * i] = low;
+    work[2 * i + 1] = high;
 }
 
 // The places of so many columns that stand one behind the other, and the place behind the last.
-fn write_places(s: &[u8], at: usize, count: usize, work: &mut [u8])
-    requires { 2 * count + 2 ≤ length work.old }
-    ensures { (fs : List (Field max_levels)) → length fs ≡ count → Every (λ f. LaidOut max_levels f.data_type) fs → Stands s.now at (each column_bytes fs) → length s.now < 65536 → Table s.now work.new fs }
+fn write_places(s: &[u8], columns: Elements, work: &mut [u8])
+    requires { 2 * columns.count + 2 ≤ length work.old }
+    ensures { (fs : List (Field max_levels)) → length fs ≡ columns.count → Every (λ f. LaidOut max_levels f.data_type) fs → Stands s.now columns.at (each column_bytes fs) → length s.now < 65536 → Table s.now work.new fs }
 {
-    put_place(work, 0, at);
-    let mut place = at;
-    let mut i = 0;
-    while i < count {
+    put_place(work, 0, columns.at);
+    let mut place = columns.at;
+    for i in 0..columns.count {
         place = walk::skip_field(s, place, Cursor::LEVELS);
-        i += 1;
-        put_place(work, i, place);
+        put_place(work, i + 1, place);
     }
 }
 
 // One entry, after those whose flag is set: 10; and if strict 11, or its own flag is set.
-fn check_entry(seen: &mut [u8], i: usize, strict: bool, at: usize) -> Checked
-    ensures { (result ≡ verdict_of (index_fits_by strict seen.old i) at) × (seen.new ≡ marked strict result seen.old i) }
+fn check_entry(seen: &mut [u8], i: usize, strict: bool, at: usize) -> Result<(), Refusal>
+    ensures { (numbered result ≡ verdict_of (index_fits_by strict seen.old i) at) × (seen.new ≡ marked strict result seen.old i) }
 {
     if seen.len() <= i {
-        return Checked::Refused(INDEX_OUT_OF_BOUNDS, at);
+        return Err(Refusal(Number::IndexOutOfBounds, at));
     }
     if !strict {
-        return Checked::Valid;
+        return Ok(());
     }
     if seen[i] == 1 {
-        return Checked::Refused(INDEX_REPEATED, at);
+        return Err(Refusal(Number::IndexRepeated, at));
     }
     seen[i] = 1;
-    Checked::Valid
+    Ok(())
 }
 
 // The list against as many columns as there are flags: 17, then the entries in order.
-fn check_list(list: &[u8], strict: bool, seen: &mut [u8]) -> Checked
-    ensures { (x : Schema) → length x.columns ≡ length seen.old → result ≡ checked_of (project strict x list.now) }
+fn check_list(list: &[u8], strict: bool, seen: &mut [u8]) -> Result<(), Refusal>
+    ensures { (x : Schema) → length x.columns ≡ length seen.old → numbered result ≡ checked_of (project strict x list.now) }
 {
     if list.len() % 2 == 1 {
-        return Checked::Refused(ODD_LIST, 0);
+        return Err(Refusal::from(Number::OddList));
     }
     buffer::clear(seen);
-    let entries = list.len() / 2;
-    let mut e = 0;
-    while e < entries {
+    for e in 0..list.len() / 2 {
         let checked = check_entry(seen, walk::two(list, 2 * e), strict, e);
-        let Checked::Valid = checked else {
+        let Ok(()) = checked else {
             return checked;
         };
-        e += 1;
     }
-    Checked::Valid
+    Ok(())
 }
 
 // The same with the flags behind a table of so many columns, which stays as it is.
-fn check_behind(list: &[u8], strict: bool, count: usize, work: &mut [u8]) -> Checked
+fn check_behind(list: &[u8], strict: bool, count: usize, work: &mut [u8]) -> Result<(), Refusal>
     requires { 3 * count + 2 ≤ length work.old }
-    ensures { (take (2 * count + 2) work.new ≡ take (2 * count + 2) work.old) × ((x : Schema) → length x.columns ≡ count → result ≡ checked_of (project strict x list.now)) }
+    ensures { (take (2 * count + 2) work.new ≡ take (2 * count + 2) work.old) × ((x : Schema) → length x.columns ≡ count → numbered result ≡ checked_of (project strict x list.now)) }
 {
     let from = 2 * count + 2;
     let end = from + count;
@@ -109,35 +93,35 @@ fn check_behind(list: &[u8], strict: bool, count: usize, work: &mut [u8]) -> Che
 
 // The table of a sheet that was read, and the verdict on the list. The work buffer has room, since a sheet has more bytes than columns:
 // the test is for any other bytes.
-fn check_columns(s: &[u8], list: &[u8], strict: bool, work: &mut [u8]) -> Checked
-    ensures { (x : Schema) → Fits x → s.now ≡ sheet_bytes x → 4 * length s.now ≤ length work.old → (result ≡ checked_of (project strict x list.now)) × Table s.now work.new x.columns }
+fn check_columns(s: &[u8], list: &[u8], strict: bool, work: &mut [u8]) -> Result<(), Refusal>
+    ensures { (x : Schema) → Fits x → s.now ≡ sheet_bytes x → 4 * length s.now ≤ length work.old → (numbered result ≡ checked_of (project strict x list.now)) × Table s.now work.new x.columns }
 {
     let columns = walk::find_columns(s, 0);
     let count = columns.count;
     if work.len() / 4 <= count {
-        return Checked::Valid;
+        return Ok(());
     }
-    write_places(s, columns.at, count, work);
+    write_places(s, columns, work);
     check_behind(list, strict, count, work)
 }
 
-// A map, and the metadata under it as it stands in the sheet.
-fn put_front(s: &[u8], map: u8, dst: &mut [u8]) -> usize
-    ensures { (x : Schema) (b : Bool) → s.now ≡ sheet_bytes x → map ≡ flag 1 (stands x.metadata) + flag 2 b → Puts (map ∷ part (with_count pair_bytes) x.metadata) dst.old 0 dst.new result }
+// The map, of which the bit for the metadata is as it was and that for the columns is given, and the metadata as it stands in the sheet.
+fn put_front(s: &[u8], columns: bool, dst: &mut [u8]) -> usize
+    ensures { (x : Schema) → s.now ≡ sheet_bytes x → Puts ((flag 1 (stands x.metadata) + flag 2 columns) ∷ part (with_count pair_bytes) x.metadata) dst.old 0 dst.new result }
 {
-    let end = walk::skip_metadata_if(s, 1, map % 2 == 1);
-    let metadata = buffer::put_one(dst, 0, map);
-    walk::put_part(dst, metadata, s, 1, end)
+    let metadata = walk::bit(walk::byte(s, 0), 0);
+    let end = walk::skip_if(s, 1, metadata, walk::skip_metadata);
+    let map = u8::from(metadata) + 2 * u8::from(columns);
+    let place = buffer::put_one(dst, 0, map);
+    walk::put_part(dst, place, s, 1, end)
 }
 
 // The column of each entry of a list that was accepted. Beyond the longest answer no more is looked at.
 fn put_columns(s: &[u8], table: &[u8], list: &[u8], dst: &mut [u8], pos: usize) -> usize
     ensures { (x y : Schema) (strict : Bool) (n : ℕ) → Table s.now table.now x.columns → project strict x list.now ≡ got y n → Puts (each column_bytes y.columns) dst.old pos dst.new result }
 {
-    let entries = list.len() / 2;
     let mut written = pos;
-    let mut e = 0;
-    while e < entries {
+    for e in 0..list.len() / 2 {
         if buffer::MAX_ANSWER_BYTES < written {
             return written;
         }
@@ -145,48 +129,56 @@ fn put_columns(s: &[u8], table: &[u8], list: &[u8], dst: &mut [u8], pos: usize) 
         let from = walk::two(table, 2 * i);
         let to = walk::two(table, 2 * (i + 1));
         written = walk::put_part(dst, written, s, from, to);
-        e += 1;
     }
     written
 }
 
-// The sheet of the projection by a list that was accepted: of the map the bit for the metadata as it was, and that for the columns where
-// there are any.
+// The sheet of the projection by a list that was accepted.
 fn put_projected(s: &[u8], table: &[u8], list: &[u8], dst: &mut [u8]) -> usize
     ensures { (x y : Schema) (strict : Bool) (n : ℕ) → s.now ≡ sheet_bytes x → Table s.now table.now x.columns → project strict x list.now ≡ got y n → Puts (sheet_bytes y) dst.old 0 dst.new result }
 {
-    let map = (walk::byte(s, 0) % 2) as u8;
-    if list.len() == 0 {
-        return put_front(s, map, dst);
+    let none = list.is_empty();
+    let count = put_front(s, !none, dst);
+    if none {
+        return count;
     }
-    let count = put_front(s, map + 2, dst);
     let first = buffer::put_two(dst, count, list.len() / 2);
     put_columns(s, table, list, dst, first)
 }
 
 // The end of a call whose list was accepted: the answer's length first, then 30, 31, or the answer.
-fn answer_projected(s: &[u8], list: &[u8], work: &mut [u8], answer: &mut [u8]) -> Outcome
+fn answer_projected(
+    s: &[u8],
+    list: &[u8],
+    work: &mut [u8],
+    answer: &mut [u8],
+) -> Result<usize, Refusal>
     ensures { (x y : Schema) (strict : Bool) (n : ℕ) → s.now ≡ sheet_bytes x → Table s.now work.old x.columns → project strict x list.now ≡ got y n → leaves result answer.new work.new ≡ acceptance (sheet_bytes y) (zeros (length work.old)) answer.old }
 {
-    let mut none = [0u8; 0];
-    let written = put_projected(s, work, list, &mut none);
-    let number = buffer::length_number(written, answer.len());
-    if number != Outcome::ACCEPTED {
-        return buffer::refuse(work, number, 0);
+    let written = put_projected(s, work, list, &mut []);
+    match buffer::length_fits(written, answer.len()) {
+        Err(refusal) => buffer::refuse(work, refusal),
+        Ok(()) => {
+            put_projected(s, work, list, answer);
+            buffer::clear(work);
+            Ok(written)
+        }
     }
-    put_projected(s, work, list, answer);
-    buffer::clear(work);
-    Outcome::accepted(written)
 }
 
 // What a call ends with whose sheet was read: the refusal of the list, or the projection.
-fn project_read(s: &[u8], list: &[u8], strict: bool, work: &mut [u8], answer: &mut [u8]) -> Outcome
+fn project_read(
+    s: &[u8],
+    list: &[u8],
+    strict: bool,
+    work: &mut [u8],
+    answer: &mut [u8],
+) -> Result<usize, Refusal>
     ensures { (x : Schema) → Fits x → s.now ≡ sheet_bytes x → 4 * length s.now ≤ length work.old → leaves result answer.new work.new ≡ settled (sheet_answer (project strict x list.now)) (zeros (length work.old)) answer.old }
 {
-    let checked = check_columns(s, list, strict, work);
-    match checked {
-        Checked::Refused(number, place) => buffer::refuse(work, number, place),
-        Checked::Valid => answer_projected(s, list, work, answer),
+    match check_columns(s, list, strict, work) {
+        Err(entry) => buffer::refuse(work, entry),
+        Ok(()) => answer_projected(s, list, work, answer),
     }
 }
 
@@ -197,27 +189,35 @@ fn project_by(
     strict: bool,
     work: &mut [u8],
     answer: &mut [u8],
-) -> Outcome
+) -> Result<usize, Refusal>
     ensures { leaves result answer.new work.new ≡ project_call strict sheet.now list.now work.old answer.old }
 {
-    if buffer::lacks_room(work.len(), sheet.len()) {
-        return Outcome::refused(Outcome::WORK_BUFFER_SHORT, 0);
-    }
+    buffer::work_fits(work.len(), sheet.len())?;
     match sheet::read_sheet(sheet) {
-        Step::Refused(number, place) => buffer::refuse(work, number, place),
-        Step::Next(_) => project_read(sheet, list, strict, work, answer),
+        Err(refusal) => buffer::refuse(work, refusal),
+        Ok(_) => project_read(sheet, list, strict, work, answer),
     }
 }
 
 // `Schema::project`: the columns of the list's entries, in the list's order.
-pub fn project(sheet: &[u8], list: &[u8], work: &mut [u8], answer: &mut [u8]) -> Outcome
+pub fn project(
+    sheet: &[u8],
+    list: &[u8],
+    work: &mut [u8],
+    answer: &mut [u8],
+) -> Result<usize, Refusal>
     ensures { leaves result answer.new work.new ≡ project_call false sheet.now list.now work.old answer.old }
 {
     project_by(sheet, list, false, work, answer)
 }
 
 // `SchemaBuilder::project`: an index may stand in the list once.
-pub fn project_strict(sheet: &[u8], list: &[u8], work: &mut [u8], answer: &mut [u8]) -> Outcome
+pub fn project_strict(
+    sheet: &[u8],
+    list: &[u8],
+    work: &mut [u8],
+    answer: &mut [u8],
+) -> Result<usize, Refusal>
     ensures { leaves result answer.new work.new ≡ project_call true sheet.now list.now work.old answer.old }
 {
     project_by(sheet, list, true, work, answer)

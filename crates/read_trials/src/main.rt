@@ -3,78 +3,63 @@
 // with a byte behind it; two sheets, of which the second is broken.
 #![tactic(auto)]
 
-use sheet::Step;
+ghost use Rattle.std.specs.Prelude.{◌≤◌};
+
+use buffer::{Outcome, Refusal};
 use std::io;
 
+// Reads a sheet of one column with a name of so many bytes: it has 7 more. Where the name has 65,529, the code ends past byte 65,535.
+fn read_long_name(bytes: u16) -> Result<usize, Refusal>
+    requires { bytes ≤ 65529 }
+{
+    let mut sheet = [0u8; 65536];
+    let [low, high] = bytes.to_le_bytes();
+    sheet[..6].copy_from_slice(&[2, 1, 0, 4, low, high]);
+    let end = usize::from(bytes) + 7;
+    sheet::read_sheet(&sheet[..end])
+}
+
 // A line: what was read, number, space, place.
-fn show(rt: &impl Print, what: &str, read: Step) -> io::Result<()> {
-    print!(rt; "{what}")?;
-    match read {
-        Step::Next(_) => println!(rt; ": 0 0"),
-        Step::Refused(number, place) => refused(rt, number, place),
-    }
-}
-
-fn refused(rt: &impl Print, number: u8, place: usize) -> io::Result<()> {
-    println!(rt; ": {number} {place}")
-}
-
-// One column with a name of so many bytes that the sheet has 65,535.
-fn longest(rt: &impl Print) -> io::Result<()> {
-    let mut s = [0u8; 65535];
-    s[0] = 2;
-    s[1] = 1;
-    s[3] = 4;
-    s[4] = 0xF8;
-    s[5] = 0xFF;
-    show(rt, "65535 bytes", sheet::read_sheet(&s))
-}
-
-// One byte more in the name: the code ends past byte 65,535.
-fn too_long(rt: &impl Print) -> io::Result<()> {
-    let mut s = [0u8; 65536];
-    s[0] = 2;
-    s[1] = 1;
-    s[3] = 4;
-    s[4] = 0xF9;
-    s[5] = 0xFF;
-    show(rt, "65536 bytes", sheet::read_sheet(&s))
+fn show(rt: &impl Print, what: &str, read: Result<usize, Refusal>) -> io::Result<()> {
+    let outcome = Outcome::from(read);
+    println!(rt; "{what}: {} {}", outcome.number, outcome.place)
 }
 
 fn main(rt: HostRuntime) -> io::Result<()> {
-    // lists in lists, a Null in the last
-    show(
-        &rt,
-        "level 32",
-        sheet::read_sheet(
-            b"\x02\x01\x00\x00\x1b\x00\x1b\x00\x1b\x00\x1b\x00\x1b\x00\x1b\x00\x1b\x00\x1b\x00\x1b\x00\x1b\x00\x1b\x00\x1b\x00\x1b\x00\x1b\x00\x1b\x00\x1b\x00\x1b\x00\x1b\x00\x1b\x00\x1b\x00\x1b\x00\x1b\x00\x1b\x00\x1b\x00\x1b\x00\x1b\x00\x1b\x00\x1b\x00\x1b\x00\x1b\x00\x1b\x00\x00",
+    for (what, read) in [
+        // lists in lists, a Null in the last
+        (
+            "level 32",
+            sheet::read_sheet(
+                b"\x02\x01\x00\x00\x1b\x00\x1b\x00\x1b\x00\x1b\x00\x1b\x00\x1b\x00\x1b\x00\x1b\x00\x1b\x00\x1b\x00\x1b\x00\x1b\x00\x1b\x00\x1b\x00\x1b\x00\x1b\x00\x1b\x00\x1b\x00\x1b\x00\x1b\x00\x1b\x00\x1b\x00\x1b\x00\x1b\x00\x1b\x00\x1b\x00\x1b\x00\x1b\x00\x1b\x00\x1b\x00\x1b\x00\x00",
+            ),
         ),
-    )?;
-    show(
-        &rt,
-        "level 33",
-        sheet::read_sheet(
-            b"\x02\x01\x00\x00\x1b\x00\x1b\x00\x1b\x00\x1b\x00\x1b\x00\x1b\x00\x1b\x00\x1b\x00\x1b\x00\x1b\x00\x1b\x00\x1b\x00\x1b\x00\x1b\x00\x1b\x00\x1b\x00\x1b\x00\x1b\x00\x1b\x00\x1b\x00\x1b\x00\x1b\x00\x1b\x00\x1b\x00\x1b\x00\x1b\x00\x1b\x00\x1b\x00\x1b\x00\x1b\x00\x1b\x00\x1b\x00\x00",
+        (
+            "level 33",
+            sheet::read_sheet(
+                b"\x02\x01\x00\x00\x1b\x00\x1b\x00\x1b\x00\x1b\x00\x1b\x00\x1b\x00\x1b\x00\x1b\x00\x1b\x00\x1b\x00\x1b\x00\x1b\x00\x1b\x00\x1b\x00\x1b\x00\x1b\x00\x1b\x00\x1b\x00\x1b\x00\x1b\x00\x1b\x00\x1b\x00\x1b\x00\x1b\x00\x1b\x00\x1b\x00\x1b\x00\x1b\x00\x1b\x00\x1b\x00\x1b\x00\x1b\x00\x00",
+            ),
         ),
-    )?;
-    // the sheet 00 so many times
-    show(&rt, "256 sheets", sheet::read_train(&[0u8; 256]))?;
-    show(&rt, "257 sheets", sheet::read_train(&[0u8; 257]))?;
-    longest(&rt)?;
-    too_long(&rt)?;
-    show(
-        &rt,
-        "id 127",
-        sheet::read_sheet(b"\x02\x01\x00\x00\x21\x00\x01\x00\x7f\x00\x00"),
-    )?;
-    show(
-        &rt,
-        "id 128",
-        sheet::read_sheet(b"\x02\x01\x00\x00\x21\x00\x01\x00\x80\x00\x00"),
-    )?;
-    show(&rt, "no bytes", sheet::read_sheet(b""))?;
-    show(&rt, "no sheets", sheet::read_train(b""))?;
-    show(&rt, "a byte behind", sheet::read_sheet(b"\x00\x00"))?;
-    show(&rt, "two sheets", sheet::read_two(b"\x00", b"\x00"))?;
-    show(&rt, "second broken", sheet::read_two(b"\x00", b"\x04"))
+        // the sheet 00 so many times
+        ("256 sheets", sheet::read_train(&[0u8; 256])),
+        ("257 sheets", sheet::read_train(&[0u8; 257])),
+        ("65535 bytes", read_long_name(65528)),
+        ("65536 bytes", read_long_name(65529)),
+        (
+            "id 127",
+            sheet::read_sheet(b"\x02\x01\x00\x00\x21\x00\x01\x00\x7f\x00\x00"),
+        ),
+        (
+            "id 128",
+            sheet::read_sheet(b"\x02\x01\x00\x00\x21\x00\x01\x00\x80\x00\x00"),
+        ),
+        ("no bytes", sheet::read_sheet(b"")),
+        ("no sheets", sheet::read_train(b"")),
+        ("a byte behind", sheet::read_sheet(b"\x00\x00")),
+        ("two sheets", sheet::read_two(b"\x00", b"\x00")),
+        ("second broken", sheet::read_two(b"\x00", b"\x04")),
+    ] {
+        show(&rt, what, read)?;
+    }
+    Ok(())
 }

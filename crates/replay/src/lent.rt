@@ -7,53 +7,25 @@ fn pattern(i: usize) -> u8 {
 
 // Fills a buffer as it is lent.
 pub fn fill(w: &mut [u8]) {
-    let mut i = 0;
-    while i < w.len() {
-        w[i] = pattern(i);
-        i += 1;
+    for (i, byte) in w.iter_mut().enumerate() {
+        *byte = pattern(i);
     }
 }
 
 // Whether the bytes from an index on are as they were lent.
 pub fn untouched(w: &[u8], from: usize) -> bool {
-    let mut i = from;
-    while i < w.len() {
-        if w[i] != pattern(i) {
-            return false;
-        }
-        i += 1;
-    }
-    true
+    w.iter()
+        .enumerate()
+        .skip(from)
+        .all(|(i, byte)| *byte == pattern(i))
 }
 
 // Whether every byte is 0.
 pub fn cleared(w: &[u8]) -> bool {
-    let mut i = 0;
-    while i < w.len() {
-        if w[i] != 0 {
-            return false;
-        }
-        i += 1;
-    }
-    true
-}
-
-// Whether the buffer begins with these bytes.
-fn begins(w: &[u8], given: &[u8]) -> bool {
-    let mut i = 0;
-    while i < given.len() {
-        if i >= w.len() {
-            return false;
-        }
-        if w[i] != given[i] {
-            return false;
-        }
-        i += 1;
-    }
-    true
+    w.iter().all(|byte| *byte == 0)
 }
 
 // Whether the buffer holds these bytes at its start, and is untouched behind them.
 pub fn holds(w: &[u8], given: &[u8]) -> bool {
-    begins(w, given) && untouched(w, given.len())
+    w.starts_with(given) && untouched(w, given.len())
 }

@@ -1,148 +1,55 @@
-// Reading the stored list from standard input, byte by byte. Where the input ends too early, or cannot be read, every byte is 0, and the
-// answers differ.
-ghost use Rattle.std.specs.Prelude.{◌≡◌, ◌≤◌, length, take};
+// Reading the stored list. An input that ends too early is an error, and so are bytes that pass the buffer for them.
+ghost use Rattle.std.specs.Prelude.{◌≤◌, length, IfOk};
 
-use std::io::Read;
+use std::io;
+use std::io::{ErrorKind, Read};
 
-// What the list says of a request before its bytes: the operation, its number, and the lengths of the two buffers.
-#[derive(Clone, Copy)]
-pub struct Asked {
-    pub operation: u8,
-    pub number: u16,
-    pub work: usize,
-    pub answer: usize,
+// So many bytes as they stand in the list.
+fn next<const N: usize>(input: &mut impl Read) -> io::Result<[u8; N]> {
+    let mut bytes = [0; N];
+    input.read_exact(&mut bytes)?;
+    Ok(bytes)
 }
 
-// The number and the place that the Rust gives.
-#[derive(Clone, Copy)]
-pub struct Told {
-    pub number: u8,
-    pub place: usize,
+pub fn next_u8(input: &mut impl Read) -> io::Result<u8> {
+    Ok(u8::from_le_bytes(next(input)?))
 }
 
-// Room for the bytes of a request, and for an answer.
-pub fn space() -> [u8; 70000]
-    ensures { 70000 ≡ length result }
-{
-    [0; 70000]
-}
-
-// Room for a work buffer.
-pub fn large_space() -> [u8; 300000]
-    ensures { 300000 ≡ length result }
-{
-    [0; 300000]
-}
-
-pub fn next_byte(input: &mut impl Read) -> u8 {
-    let mut one = [0u8; 1];
-    match input.read_exact(&mut one) {
-        Ok(()) => one[0],
-        Err(_) => 0,
-    }
-}
-
-// Whether the input is at its end.
-pub fn ended(input: &mut impl Read) -> bool {
-    let mut one = [0u8; 1];
-    input.read_exact(&mut one).is_err()
-}
-
-pub fn next_u16(input: &mut impl Read) -> u16 {
-    let low = next_byte(input);
-    let high = next_byte(input);
-    low as u16 + 256 * high as u16
+pub fn next_u16(input: &mut impl Read) -> io::Result<u16> {
+    Ok(u16::from_le_bytes(next(input)?))
 }
 
 // A number of four bytes.
-pub fn next_usize(input: &mut impl Read) -> usize {
-    let low = next_u16(input);
-    let high = next_u16(input);
-    low as usize + 65536 * high as usize
+pub fn next_usize(input: &mut impl Read) -> io::Result<usize> {
+    Ok(u32::from_le_bytes(next(input)?) as usize)
 }
 
-// The list's next request, up to its bytes.
-pub fn next_asked(input: &mut impl Read, operation: u8) -> Asked {
-    let number = next_u16(input);
-    let work = next_usize(input);
-    let answer = next_usize(input);
-    Asked {
-        operation,
-        number,
-        work,
-        answer,
-    }
+// A buffer of the length that comes next in the list.
+pub fn next_room<'a>(input: &mut impl Read, space: &'a mut [u8]) -> io::Result<&'a mut [u8]> {
+    let length = next_usize(input)?;
+    Ok(space.get_mut(..length).ok_or(ErrorKind::InvalidData)?)
 }
 
-// What the list says that the Rust gives, up to the answer.
-pub fn next_told(input: &mut impl Read) -> Told {
-    let number = next_byte(input);
-    let place = next_usize(input);
-    Told { number, place }
-}
-
-// The number, or the slice's length where that is less.
-pub fn within(n: usize, s: &[u8]) -> usize
-    ensures in_bounds { result ≤ length s.now }
-    ensures counts { result ≡ length (take result s.now) }
+// The list's next piece, from an index on: the index behind it.
+fn next_piece(input: &mut impl Read, dst: &mut [u8], at: usize) -> io::Result<usize>
+    requires { at ≤ length dst.old }
+    ensures { IfOk result (λ end. end ≤ length dst.new) }
 {
-    if n < s.len() {
-        return n;
-    }
-    s.len()
+    let literal_end = at + usize::from(next_u16(input)?);
+    let literal = dst.get_mut(at..literal_end).ok_or(ErrorKind::InvalidData)?;
+    input.read_exact(literal)?;
+    let end = literal_end + usize::from(next_u16(input)?);
+    let byte = next_u8(input)?;
+    let repeated = dst.get_mut(literal_end..end).ok_or(ErrorKind::InvalidData)?;
+    repeated.fill(byte);
+    Ok(end)
 }
 
-// Puts a byte at an index, and gives the next one; at the end of dst nothing is put.
-fn put(dst: &mut [u8], at: usize, byte: u8) -> usize {
-    if at < dst.len() {
-        dst[at] = byte;
-        return at + 1;
+// The list's next bytes, in a buffer that has room for them.
+pub fn next_bytes<'a>(input: &mut impl Read, space: &'a mut [u8]) -> io::Result<&'a [u8]> {
+    let mut filled = 0;
+    for _ in 0..next_u16(input)? {
+        filled = next_piece(input, space, filled)?;
     }
-    at
-}
-
-// Puts so many bytes of the list at an index, and gives the one behind them.
-fn literal(input: &mut impl Read, dst: &mut [u8], at: usize, count: u16) -> usize {
-    let mut next = at;
-    let mut left = count;
-    while left > 0 {
-        let byte = next_byte(input);
-        next = put(dst, next, byte);
-        left -= 1;
-    }
-    next
-}
-
-// Puts one byte so often at an index, and gives the one behind it.
-fn repeated(dst: &mut [u8], at: usize, count: u16, byte: u8) -> usize {
-    let mut next = at;
-    let mut left = count;
-    while left > 0 {
-        next = put(dst, next, byte);
-        left -= 1;
-    }
-    next
-}
-
-// The list's next piece.
-fn piece(input: &mut impl Read, dst: &mut [u8], at: usize) -> usize {
-    let bytes = next_u16(input);
-    let next = literal(input, dst, at, bytes);
-    let often = next_u16(input);
-    let byte = next_byte(input);
-    repeated(dst, next, often, byte)
-}
-
-// The list's next bytes, at the start of dst: how many they are.
-pub fn next_bytes(input: &mut impl Read, dst: &mut [u8]) -> usize
-    ensures in_bounds { result ≤ length dst.new }
-    ensures counts { result ≡ length (take result dst.new) }
-{
-    let mut pieces = next_u16(input);
-    let mut next = 0;
-    while pieces > 0 {
-        next = piece(input, dst, next);
-        pieces -= 1;
-    }
-    within(next, &dst[..])
+    Ok(&space[..filled])
 }

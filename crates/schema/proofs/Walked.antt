@@ -29,11 +29,6 @@ module _ {s : Bytes} {place : ℕ} (levels : ℕ) {w : Bytes} {p : ℕ} {w' : By
   unfolding field_bytes field_fields
   field_walked e f g l x h k = flat_own e (flat_past (λ m. type_fields l m x.data_type) _ refl (f l x) (g l x.data_type h k))
 
-  -- no type is of no level
-  pub no_level : levels ≡ 0 → FlattensType s place levels w p w' r q
-  no_level h zero t k z = absurd z
-  no_level h (suc l) t k z = absurd (omega (arith, h, k))
-
   pub type_walked : {code params children : ℕ} → code ≡ get_or s place 0 → Ahead s place 1 params
       → ((b : Bytes) → WellFormedParams (layout code).params b → Skips s params b children)
       → FlattensChildren s children code (levels - 1) w p w' r q → FlattensType s place levels w p w' r q

@@ -2,72 +2,25 @@
 use Prim.Native.Nat.{ℕ, zero, suc, ◌+◌, ◌-◌, ◌/◌, ◌≤◌, ◌<◌}
 use native.Mathlib.Omega.{arith}
 use mathlib.Core.Path.{◌≡◌, refl, sym, ap, subst, ◌∙◌}
-use mathlib.Core.List.{List, [], ◌∷◌, ◌++◌, append_assoc, append-nil}
+use mathlib.Core.List.{List, [], ◌∷◌, ◌++◌, append_assoc}
 use mathlib.Core.Bool.{Bool, false≢true}
 use lib.ListN.{length, get_or}
 use lib.Dec.{eqb}
 use borrow.Author.Tests.{eq-eqb, eqb-true}
 use Rattle.model.specs.Bytes.{Bytes, Metadata, Every}
 use Rattle.model.specs.Tree.{FieldOver, DataType, Field}
-use Rattle.model.specs.Sheet.{each}
 use Rattle.walk.specs.Stands.{Stands, Skips}
 use Rattle.walk.proofs.Standing.{first_stands, byte_stands, skip_ahead, skip_join, skip_when}
 use Rattle.walk.proofs.Parts.{Ahead}
-use Rattle.table.specs.Table.{u24, three, no_place, no_entry, raw, open_struct, open_list, open_union, places_bytes, Rows, none, more, Refer, none_left, one_place, SpellMetadata, raw_pairs, pair_places, SpellFieldOver, spell_raw, spell_struct, spell_list, spell_union, SpellType, SpellField, SpellRow}
-use Rattle.table.proofs.Numbers.{length_u24, three_stands}
+use Rattle.table.specs.Table.{u24, no_place, no_entry, raw, open_struct, open_list, open_union, places_bytes, Rows, none, more, Refer, none_left, one_place, SpellMetadata, raw_pairs, pair_places, SpellFieldOver, spell_raw, spell_struct, spell_list, spell_union, SpellType, SpellField, SpellRow}
+use Rattle.table.proofs.Numbers.{length_u24}
 use Rattle.table.proofs.Marked.{joined, Left, Rest, rest_begin, rest_again, rest_done, rest_none}
 
 -- Rows of places
 
--- the bytes of a place
-pub record IsPlace (b : Bytes) : Type 0 where
-  pub place : ℕ
-  pub small : place < no_place
-  pub bytes : b ≡ u24 place
-
-place_parts : List ℕ → List Bytes
-place_parts [] = []
-place_parts (p ∷ ps) = u24 p ∷ place_parts ps
-
-parts_joined : (ps : List ℕ) → joined (place_parts ps) ≡ each u24 ps
-unfolding place_parts
-parts_joined [] = refl
-parts_joined (p ∷ ps) = ap (λ r. u24 p ++ r) (parts_joined ps)
-
-parts_good : (ps : List ℕ) → Every (λ p. p < no_place) ps → Every IsPlace (place_parts ps)
-unfolding place_parts
-parts_good [] g = tt
-parts_good (p ∷ ps) g = (record { place = p; small = g.0; bytes = refl }, parts_good ps g.1)
-
-abbrev pub PlacesRest : Bytes → ℕ → ℕ → Type 0
-PlacesRest w first place = Rest IsPlace (u24 no_place) w first place
-
 -- what `skip_places` ensures
 abbrev pub SkipsPlaces : Bytes → ℕ → ℕ → Type 0
 SkipsPlaces w first r = (ps : List ℕ) → Every (λ p. p < no_place) ps → Skips w first (places_bytes ps) r
-
-module _ {w : Bytes} where
-  pub places_begin : (first : ℕ) → PlacesRest w first first
-  places_begin first = rest_begin IsPlace (u24 no_place) w first
-
-  of_parts : {first r : ℕ} → ((bs : List Bytes) → Every IsPlace bs → Skips w first (joined bs ++ u24 no_place) r) → SkipsPlaces w first r
-  of_parts {first} {r} f ps g = subst (λ b. Skips w first (b ++ u24 no_place) r) (parts_joined ps) (f (place_parts ps) (parts_good ps g))
-
-  module _ {first place n : ℕ} (k : PlacesRest w first place) (e : n ≡ three w place) where
-    pub places_again : (n ≡ no_place → ⊥) → place < length w → PlacesRest w first (place + 3)
-    places_again never h =
-        rest_again IsPlace (u24 no_place) w k (λ st. never (e ∙ three_stands no_place [] (omega arith) (subst (Stands w place) (sym (append-nil (u24 no_place))) st)))
-        λ b i. skip_ahead b (ap length i.bytes ∙ length_u24 i.place) λ j. refl
-
-    pub places_done : {r : ℕ} → n ≡ no_place → Ahead w place 3 r → SkipsPlaces w first r
-    places_done {r} at_mark a =
-        of_parts
-        (rest_done IsPlace (u24 no_place) w k
-        (λ b c i st. omega (arith, i.small, at_mark, e, three_stands i.place c (omega (arith, i.small)) (subst (λ z. Stands w place (z ++ c)) i.bytes st)))
-        (skip_ahead (u24 no_place) (length_u24 no_place) a.1))
-
-  pub places_none : {first place r : ℕ} → PlacesRest w first place → length w ≤ place → SkipsPlaces w first r
-  places_none k h = of_parts (rest_none IsPlace (u24 no_place) w k h (omega (arith, length_u24 no_place)))
 
 pub refer_small : {A : Type 0} {s : Bytes} {write : A → Bytes} {ps : List ℕ} {xs : List A} → Refer s write ps xs → Every (λ p. p < no_place) ps
 refer_small none_left = tt
@@ -119,57 +72,53 @@ module _ {w : Bytes} {place : ℕ} (levels : ℕ) where
   no_level r h zero s first k y t i p = absurd p
   no_level r h (suc l) s first k y t i p = absurd (omega (arith, h, i))
 
-  module _ {kind inner : ℕ} (e : kind ≡ get_or w place 0) (a : Ahead w place 4 inner) where
+  module _ {inner : ℕ} (a : Ahead w place 4 inner) where
     front : (c x : ℕ) → Skips w place (c ∷ u24 x) inner
     front c x = skip_ahead (c ∷ u24 x) (omega (arith, length_u24 x)) a.1
 
     -- a type of another kind does not stand there
-    other_kind : {c : ℕ} {y z : Bytes} {r : ℕ} → y ≡ c ∷ z → (kind ≡ c → ⊥) → Skips w place y r
-    other_kind i n = skip_when λ st. absurd (n (e ∙ byte_stands (subst (Stands w place) i st)))
+    other_kind : {c : ℕ} {y z : Bytes} {r : ℕ} → y ≡ c ∷ z → (get_or w place 0 ≡ c → ⊥) → Skips w place y r
+    other_kind i n = skip_when λ st. absurd (n (byte_stands (subst (Stands w place) i st)))
 
     -- behind the kind and the place
     this_kind : (c x : ℕ) (ys : Bytes) {y : Bytes} {r : ℕ} → y ≡ c ∷ (u24 x ++ ys) → Skips w inner ys r → Skips w place y r
     this_kind c x ys {r = r} i h = subst (λ y. Skips w place y r) (sym i) (skip_join (front c x) h)
 
-    pub types_raw : kind ≡ raw → SkipsTypes w place levels inner
+    pub types_raw : get_or w place 0 ≡ raw → SkipsTypes w place levels inner
     types_raw h zero s first k y t i p = absurd p
     types_raw h (suc l) s first k y t i (spell_raw x b q v) = subst (λ y. Skips w place y inner) (sym b) (front raw x)
     types_raw h (suc l) s first k y t i (spell_struct x m ys b q g c p rw v) = other_kind b λ d. omega (arith, h, d)
     types_raw h (suc l) s first k y t i (spell_list x m ys f b q g c p n v u) = other_kind b λ d. omega (arith, h, d)
     types_raw h (suc l) s first k y t i (spell_union x m ys b q g c p n v u) = other_kind b λ d. omega (arith, h, d)
 
-    pub types_struct : {r : ℕ} → kind ≡ open_struct → SkipsRows w inner (levels - 1) r → SkipsTypes w place levels r
+    pub types_struct : {r : ℕ} → get_or w place 0 ≡ open_struct → SkipsRows w inner (levels - 1) r → SkipsTypes w place levels r
     types_struct h z zero s first k y t i p = absurd p
     types_struct h z (suc l) s first k y t i (spell_raw x b q v) = other_kind b λ d. omega (arith, h, d)
     types_struct h z (suc l) s first k y t i (spell_struct x m ys b q g c p n v) = this_kind open_struct x ys b (z l s m ys t.children (omega (arith, i)) n)
     types_struct h z (suc l) s first k y t i (spell_list x m ys f b q g c p n v u) = other_kind b λ d. omega (arith, h, d)
     types_struct h z (suc l) s first k y t i (spell_union x m ys b q g c p n v u) = other_kind b λ d. omega (arith, h, d)
 
-    pub types_list : {r : ℕ} → kind ≡ open_list → SkipsEntries w inner (levels - 1) r → SkipsTypes w place levels r
+    pub types_list : {r : ℕ} → get_or w place 0 ≡ open_list → SkipsEntries w inner (levels - 1) r → SkipsTypes w place levels r
     types_list h z zero s first k y t i p = absurd p
     types_list h z (suc l) s first k y t i (spell_raw x b q v) = other_kind b λ d. omega (arith, h, d)
     types_list h z (suc l) s first k y t i (spell_struct x m ys b q g c p n v) = other_kind b λ d. omega (arith, h, d)
     types_list h z (suc l) s first k y t i (spell_list x m ys f b q g c p n v u) = this_kind open_list x ys b (z l s m ys f (omega (arith, i)) n)
     types_list h z (suc l) s first k y t i (spell_union x m ys b q g c p n v u) = other_kind b λ d. omega (arith, h, d)
 
-    pub types_union : {r : ℕ} → (kind ≡ raw → ⊥) → (kind ≡ open_struct → ⊥) → (kind ≡ open_list → ⊥) → SkipsPlaces w inner r → SkipsTypes w place levels r
-    types_union h₀ h₁ h₂ z zero s first k y t i p = absurd p
-    types_union h₀ h₁ h₂ z (suc l) s first k y t i (spell_raw x b q v) = other_kind b h₀
-    types_union h₀ h₁ h₂ z (suc l) s first k y t i (spell_struct x m ys b q g c p n v) = other_kind b h₁
-    types_union h₀ h₁ h₂ z (suc l) s first k y t i (spell_list x m ys f b q g c p n v u) = other_kind b h₂
-    types_union {r} h₀ h₁ h₂ z (suc l) s first k y t i (spell_union x m ys b q g c p n v u) =
+    pub types_union : {r : ℕ} → (get_or w place 0 ≡ raw → ⊥) × (get_or w place 0 ≡ open_struct → ⊥) × (get_or w place 0 ≡ open_list → ⊥) → SkipsPlaces w inner r → SkipsTypes w place levels r
+    types_union (h₀, h₁, h₂) z zero s first k y t i p = absurd p
+    types_union (h₀, h₁, h₂) z (suc l) s first k y t i (spell_raw x b q v) = other_kind b h₀
+    types_union (h₀, h₁, h₂) z (suc l) s first k y t i (spell_struct x m ys b q g c p n v) = other_kind b h₁
+    types_union (h₀, h₁, h₂) z (suc l) s first k y t i (spell_list x m ys f b q g c p n v u) = other_kind b h₂
+    types_union {r} (h₀, h₁, h₂) z (suc l) s first k y t i (spell_union x m ys b q g c p n v u) =
         this_kind open_union x ys b (subst (λ y. Skips w inner y r) (sym n.bytes) (z n.places (refer_small n.refer)))
-
--- past the end none stands
-pub past_entry : {w : Bytes} {place : ℕ} (levels r : ℕ) → length w ≤ place → SkipsEntries w place levels r
-past_entry levels r h l s k y f j p = record { behind = λ st. absurd (omega (arith, h, st.inside, ap length p.bytes)) }
 
 -- an entry without metadata of its own, whose type is raw
 pub plain_entry : {w : Bytes} {place : ℕ} (levels : ℕ) → get_or w place 0 < 4 → get_or w (place + 4) 0 ≡ raw → place + 8 ≤ length w → SkipsEntries w place levels (place + 8)
 plain_entry {w} {place} levels h z i l s k y f j p =
     let m : SkipsMetadata w (place + 4) (get_or w place 0) (place + 4) = (λ n. refl, λ ps n g. absurd (omega (arith, h, n))) in
     let next : place + 4 + 4 ≡ place + 8 = omega arith in
-    entry_skips (head_skips refl (omega arith, λ n. refl) m) (λ o r v t q. types_raw levels refl (omega arith, λ n. sym next) z l s o r v t j q) p
+    entry_skips (head_skips refl (omega arith, λ n. refl) m) (λ o r v t q. types_raw levels (omega arith, λ n. sym next) z l s o r v t j q) p
 
 -- Rows of entries
 

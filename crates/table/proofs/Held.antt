@@ -4,9 +4,9 @@ use mathlib.Core.List.{[], ◌++◌, append_assoc}
 use Prim.Native.Nat.{ℕ, ◌+◌, ◌-◌, ◌≤◌}
 use native.Mathlib.Omega.{arith}
 use lib.ListN.{length, take, drop, length-append, take-append-drop}
-use lib.Seq.{take_at, drop_at, length-take-le, take-append-le, take-take}
+use lib.Seq.{paste, take_at, drop_at, length-take-le, take-append-le, take-take}
+use Rattle.std.proofs.lemmas.List.{take_all}
 use Rattle.model.specs.Bytes.{Bytes}
-use Rattle.buffer.specs.Buffer.{pasted}
 use Rattle.walk.specs.Stands.{Stands}
 use Rattle.walk.proofs.Standing.{rest_stands}
 use Rattle.table.specs.Held.{Held}
@@ -31,14 +31,13 @@ module _ {w : Bytes} {used : ℕ} {x y z : Bytes} (h : Held w used x y z) where
   pub held_stands : {p : ℕ} → p ≡ length x → Stands w p y
   held_stands {p} e = rest_stands w p y (z ++ drop used w) (omega (arith, e, held_length, h.fits)) (ap (drop p) held_all ∙ drop_at x _ p (sym e))
 
-  pub held_overwritten : {p : ℕ} (v : Bytes) {after : Bytes} → p ≡ length x → length y ≡ length v → after ≡ pasted w p v → Held after used x v z
-  unfolding pasted
+  pub held_overwritten : {p : ℕ} (v : Bytes) {after : Bytes} → p ≡ length x → length y ≡ length v → after ≡ paste w p v (length v) → Held after used x v z
   held_overwritten {p} v {after} hx hy e =
       let d = drop used w in
       let a : take p w ≡ x = ap (take p) held_all ∙ take_at x (y ++ (z ++ d)) p (sym hx) in
       let w1 : w ≡ (x ++ y) ++ (z ++ d) = held_all ∙ sym (append_assoc x y (z ++ d)) in
       let b : drop (p + length v) w ≡ z ++ d = ap (drop (p + length v)) w1 ∙ drop_at (x ++ y) (z ++ d) (p + length v) (omega (arith, length-append x y, hx, hy)) in
-      held_from after x v z d used (e ∙ rw (a, b) (simp append_assoc)) (omega (arith, length-append x (v ++ z), length-append v z, held_length, hy))
+      held_from after x v z d used (e ∙ rw (a, b, take_all (length v) v (omega arith)) (simp append_assoc)) (omega (arith, length-append x (v ++ z), length-append v z, held_length, hy))
 
   -- seen from afar, or nearer
   pub held_as : {x' y' z' : Bytes} → x ++ (y ++ z) ≡ x' ++ (y' ++ z') → Held w used x' y' z'
@@ -50,8 +49,7 @@ take_front p n w r h e = let i : p ≤ length (take n w) = omega (arith, h, e) i
 module _ {w : Bytes} {used : ℕ} {x z : Bytes} (h : Held w used x [] z) where
   -- bytes put in between, after what stands behind was moved on
   pub held_inserted : {p : ℕ} (v : Bytes) {moved after : Bytes} → p ≡ length x → used + length v ≤ length w
-      → moved ≡ pasted w (p + length v) (take (used - p) (drop p w)) → after ≡ pasted moved p v → Held after (used + length v) x v z
-  unfolding pasted
+      → moved ≡ paste w (p + length v) (drop p w) (used - p) → after ≡ paste moved p v (length v) → Held after (used + length v) x v z
   held_inserted {p} v {moved} {after} hx room m e =
       let d = drop used w in
       let n = held_length h in
@@ -59,8 +57,9 @@ module _ {w : Bytes} {used : ℕ} {x z : Bytes} (h : Held w used x [] z) where
       let back : drop p w ≡ z ++ d = ap (drop p) w1 ∙ drop_at x (z ++ d) p (sym hx) in
       let b : take (used - p) (drop p w) ≡ z = ap (take (used - p)) back ∙ take_at z d (used - p) (omega (arith, n, hx)) in
       let k : length (take (p + length v) w) ≡ p + length v = length-take-le (p + length v) w (omega (arith, room, n, hx)) in
-      let a : take p moved ≡ x = ap (take p) m ∙ take_front p (p + length v) w _ (omega arith) k ∙ ap (take p) w1 ∙ take_at x (z ++ d) p (sym hx) in
-      let c : drop (p + length v) moved ≡ z ++ drop (p + length v + length (take (used - p) (drop p w))) w =
-      ap (drop (p + length v)) m ∙ drop_at (take (p + length v) w) _ (p + length v) k ∙ ap (λ t. t ++ drop (p + length v + length (take (used - p) (drop p w))) w) b in
-      held_from after x v z (drop (p + length v + length (take (used - p) (drop p w))) w) (used + length v) (e ∙ rw (a, c) (simp append_assoc))
+      let behind = drop (p + length v + (used - p)) w in
+      let m2 : moved ≡ take (p + length v) w ++ (take (used - p) (drop p w) ++ behind) = m ∙ append_assoc (take (p + length v) w) (take (used - p) (drop p w)) behind in
+      let a : take p moved ≡ x = ap (take p) m2 ∙ take_front p (p + length v) w _ (omega arith) k ∙ ap (take p) w1 ∙ take_at x (z ++ d) p (sym hx) in
+      let c : drop (p + length v) moved ≡ z ++ behind = ap (drop (p + length v)) m2 ∙ drop_at (take (p + length v) w) _ (p + length v) k ∙ ap (λ t. t ++ behind) b in
+      held_from after x v z behind (used + length v) (e ∙ rw (a, c, take_all (length v) v (omega arith)) (simp append_assoc))
       (omega (arith, length-append x (v ++ z), length-append v z, n))

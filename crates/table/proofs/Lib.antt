@@ -1,8 +1,8 @@
 -- The laws that the proofs of `table`, and of its callers, lean on.
-pub mod Moving
 pub mod Held
 pub mod Says
 pub mod Numbers
+pub mod OfKinds
 pub mod Marked
 pub mod Entries
 pub mod Look
@@ -10,6 +10,7 @@ pub mod NewEntries
 pub mod Types
 pub mod Opening
 pub mod Places
+pub mod Given
+pub mod TakingWhile
 pub mod Fits
-pub mod Sought
 pub mod Pouring

@@ -15,7 +15,7 @@ use Rattle.walk.proofs.Parts.{Ahead}
 use Rattle.walk.proofs.Descents.{head_stands}
 use Rattle.table.specs.Table.{three, no_entry, Rows, none, more, SpellField, SpellRow}
 use Rattle.table.specs.Look.{Cut, FoundAt, Finds}
-use Rattle.table.specs.declared.Found.{Found}
+use Rattle.std.proofs.Common.{Result, Ok, Err}
 use Rattle.table.proofs.Numbers.{three_stands}
 use Rattle.table.proofs.Entries.{SkipsEntries}
 
@@ -35,9 +35,6 @@ module _ {s w : Bytes} {place : ℕ} where
   flags_stand l e st = byte_stands (subst (Stands w place) e.bytes st)
 
   module _ {name : Bytes} {b : ℕ} (i : b ≡ get_or w place 0) where
-    pub named_none : b ≡ no_entry → Named s w place name false
-    named_none h = (λ l k y f n e st u. absurd (omega (arith, e.small_flags, h, i, flags_stand l e st)), λ j. refl)
-
     pub named_entry : {m t : ℕ} {r : Bool} → (b ≡ no_entry → ⊥) → Ahead w place 1 m → t ≡ three w m → HasName s t name r → Named s w place name r
     named_entry {m} {t} {r} never a j h = (go, λ z. absurd (never (i ∙ z)))
       where
@@ -198,7 +195,7 @@ row_begin {l} {s} {row} {k} {y} {fs} p = record {
 }
 
 -- what `scan` ensures of a row
-abbrev pub FindsIn : Bytes → Bytes → ℕ → Bytes → ℕ → Found → Type 0
+abbrev pub FindsIn : Bytes → Bytes → ℕ → Bytes → ℕ → Result ℕ ℕ → Type 0
 FindsIn s w row name levels r =
     (l k : ℕ) (y : Bytes) (fs : List (Field l)) (n : Bytes) → l ≤ levels → SpellRow l s k y fs → Stands w row y → name ≡ part text_bytes n → Finds l s row k y fs n r
 
@@ -208,13 +205,13 @@ module _ {s w : Bytes} (row : ℕ) (name : Bytes) (levels : ℕ) where
 
   module _ {place : ℕ} (c : Scan s w row name levels place) where
     -- past the buffer's end no row ends
-    pub scan_out : length w ≤ place → FindsIn s w row name levels (Found.Absent place)
+    pub scan_out : length w ≤ place → FindsIn s w row name levels (Err place)
     scan_out h l k y fs n i p st u =
         let v = after_stands (c.passed l k y fs n i p st u).cut st in
         absurd (omega (arith, v.inside, h, length-append (c.passed l k y fs n i p st u).cut.after_bytes (no_entry ∷ [])))
 
     module _ {byte : ℕ} (e : byte ≡ get_or w place 0) where
-      pub scan_absent : byte ≡ no_entry → FindsIn s w row name levels (Found.Absent place)
+      pub scan_absent : byte ≡ no_entry → FindsIn s w row name levels (Err place)
       scan_absent h l k y fs n i p st u =
           let d = c.passed l k y fs n i p st u in
           let z = end_here n d.cut st (sym e ∙ h) in
@@ -240,7 +237,7 @@ module _ {s w : Bytes} (row : ℕ) (name : Bytes) (levels : ℕ) where
         here l k y fs n i p st u d = next_entry n d.cut st λ z. never (e ∙ z)
 
         -- an entry is not empty
-        pub scan_stuck : {m : ℕ} → SkipsEntries w place levels m → m ≤ place → FindsIn s w row name levels (Found.Absent place)
+        pub scan_stuck : {m : ℕ} → SkipsEntries w place levels m → m ≤ place → FindsIn s w row name levels (Err place)
         scan_stuck {m} f h l k y fs n i p st u =
             let d = c.passed l k y fs n i p st u in
             let x = here l k y fs n i p st u d in
@@ -251,7 +248,7 @@ module _ {s w : Bytes} (row : ℕ) (name : Bytes) (levels : ℕ) where
               → b ≡ same_bytes x.this.head.name n
           verdict {l} n d st x u = v.0 l x.this_room x.this_bytes x.this n x.spelt (first_stands x.this_bytes _ x.stands) u
 
-          pub scan_found : b ≡ true → FindsIn s w row name levels (Found.At place)
+          pub scan_found : b ≡ true → FindsIn s w row name levels (Ok place)
           scan_found h l k y fs n i p st u =
               let d = c.passed l k y fs n i p st u in
               let x = here l k y fs n i p st u d in

@@ -30,7 +30,7 @@ order_bit l g e st = ap (λ n. n / 2 % 2) (map_stands e g.head (head_stands l g 
 
 module _ {s : Bytes} {q t map : ℕ} (e : map ≡ get_or s q 0) (f : (h : Head) → Skips s q (head_bytes h) t) where
   abbrev entry : Bytes
-  entry = map % 4 % 256 ∷ (u24 q ++ (raw ∷ u24 t))
+  entry = map % 4 ∷ (u24 q ++ (raw ∷ u24 t))
 
   pub new_entry : (l : ℕ) (g : Field l) → Incoming l s q g → SpellField l s (4 * length (field_bytes (type_bytes l) g)) entry g
   unfolding field_bytes front_bytes head_bytes
@@ -39,7 +39,7 @@ module _ {s : Bytes} {q t map : ℕ} (e : map ≡ get_or s q 0) (f : (h : Head) 
       let n = length-append (head_bytes g.head) (type_bytes l g.data_type) in
       let m = length-append (part text_bytes g.head.name) (part (with_count pair_bytes) g.head.metadata) in
       record {
-        flags = map % 4 % 256;
+        flags = map % 4;
         first = q;
         own = g;
         metadata_bytes = [];
@@ -52,11 +52,11 @@ module _ {s : Bytes} {q t map : ℕ} (e : map ≡ get_or s q 0) (f : (h : Head) 
         stands = st;
         well_formed = i.well_formed;
         name = refl;
-        dict_is_ordered = is_one (map % 4 % 256 / 2 % 2) g.head.dict_is_ordered (omega (arith, order_bit l g e st));
+        dict_is_ordered = is_one (map % 4 / 2 % 2) g.head.dict_is_ordered (omega (arith, order_bit l g e st));
         dict_id = refl;
         type_id = i.type_id;
-        nullable = is_one (map % 4 % 256 % 2) g.head.nullable (omega (arith, nullable_bit l g e st));
-        metadata = raw_pairs (closed (map % 4 % 256) (omega arith)) refl refl (omega arith);
+        nullable = is_one (map % 4 % 2) g.head.nullable (omega (arith, nullable_bit l g e st));
+        metadata = raw_pairs (closed (map % 4) (omega arith)) refl refl (omega arith);
         data_type = raw_type l g i;
         room = omega (arith, n, m, length-append (front_bytes g.head) (dict_id_bytes g.head.dict_id));
       }
@@ -76,15 +76,15 @@ module _ {s : Bytes} {q t map : ℕ} (e : map ≡ get_or s q 0) (f : (h : Head) 
             room = omega arith;
           }) λ z. refl
 
-eight : (f q t a b c d g h i : ℕ) → a ≡ f % 4 % 256 → b ≡ q % 256 → c ≡ q / 256 % 256 → d ≡ q / 65536 % 256 → g ≡ t % 256 → h ≡ t / 256 % 256 → i ≡ t / 65536 % 256
-    → ◌≡◌ {A = Bytes} (a ∷ b ∷ c ∷ d ∷ 0 ∷ g ∷ h ∷ i ∷ []) (f % 4 % 256 ∷ (u24 q ++ (raw ∷ u24 t)))
+-- its eight bytes, of which its places are three each
+eight : (f q t : ℕ) {v u : Bytes} → v ≡ u24 q → u ≡ u24 t
+    → ◌≡◌ {A = Bytes} (f ∷ get_or v 0 0 ∷ get_or v 1 0 ∷ get_or v 2 0 ∷ raw ∷ get_or u 0 0 ∷ get_or u 1 0 ∷ get_or u 2 0 ∷ []) (f ∷ (u24 q ++ (raw ∷ u24 t)))
 unfolding u24
-eight f q t a b c d g h i x1 x2 x3 x4 x6 x7 x8 = cc
+eight f q t e i = rw (e, i)
 
--- its eight bytes, between x and z
-pub entry_inserted : {s : Bytes} {q t map : ℕ} → map ≡ get_or s q 0 → ((h : Head) → Skips s q (head_bytes h) t) → {a b c d g h i : ℕ}
-    → a ≡ map % 4 % 256 → b ≡ q % 256 → c ≡ q / 256 % 256 → d ≡ q / 65536 % 256 → g ≡ t % 256 → h ≡ t / 256 % 256 → i ≡ t / 65536 % 256
-    → (l : ℕ) (f : Field l) {w' x z : Bytes} {used : ℕ} → Incoming l s q f → Held w' used x (a ∷ b ∷ c ∷ d ∷ 0 ∷ g ∷ h ∷ i ∷ []) z → NewEntry l s f w' used x z
-entry_inserted {s} {q} {t} {map} e k {a} {b} {c} {d} {g} {h} {i} x1 x2 x3 x4 x6 x7 x8 l f {w'} {x} {z} {used} n u =
-    let v = eight map q t a b c d g h i x1 x2 x3 x4 x6 x7 x8 in
-    record { bytes = map % 4 % 256 ∷ (u24 q ++ (raw ∷ u24 t)); spelt = new_entry e k l f n; held = subst (λ y. Held w' used x y z) v u }
+-- between x and z
+pub entry_inserted : {s : Bytes} {q t map : ℕ} → map ≡ get_or s q 0 → ((h : Head) → Skips s q (head_bytes h) t) → {v u : Bytes} → v ≡ u24 q → u ≡ u24 t
+    → (l : ℕ) (f : Field l) {w' x z : Bytes} {used : ℕ} → Incoming l s q f
+    → Held w' used x (map % 4 ∷ get_or v 0 0 ∷ get_or v 1 0 ∷ get_or v 2 0 ∷ raw ∷ get_or u 0 0 ∷ get_or u 1 0 ∷ get_or u 2 0 ∷ []) z → NewEntry l s f w' used x z
+entry_inserted {s} {q} {t} {map} e k i j l f {w'} {x} {z} {used} n h =
+    record { bytes = map % 4 ∷ (u24 q ++ (raw ∷ u24 t)); spelt = new_entry e k l f n; held = subst (λ y. Held w' used x y z) (eight (map % 4) q t i j) h }

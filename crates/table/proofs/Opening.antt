@@ -23,8 +23,8 @@ use Rattle.table.specs.Becomes.{Incoming}
 use Rattle.table.specs.Opened.{NewEntry, OpensList}
 use Rattle.table.proofs.Types.{raw_there}
 
-pub byte_set : {w' x z : Bytes} {used b n : ℕ} → b ≡ n % 256 → n < 256 → Held w' used x (b ∷ []) z → Held w' used x (n ∷ []) z
-byte_set {w'} {x} {z} {used} e h k = subst (λ v. Held w' used x (v ∷ []) z) (omega (arith, e, h)) k
+pub byte_set : {w' x z : Bytes} {used n : ℕ} → n < 256 → Held w' used x (n % 256 ∷ []) z → Held w' used x (n ∷ []) z
+byte_set {w'} {x} {z} {used} h k = subst (λ v. Held w' used x (v ∷ []) z) (omega (arith, h)) k
 
 -- what `set_byte` ensures
 abbrev pub SetsByte : (w : Bytes) (used place n : ℕ) (w' : Bytes) → Type 0
@@ -117,11 +117,11 @@ abbrev pub InsertsEntry : (s w : Bytes) (used inner q : ℕ) (w' : Bytes) (r : �
 InsertsEntry s w used inner q w' r =
     (l : ℕ) (g : Field l) (x z : Bytes) → Incoming l s q g → Held w used x [] z → inner ≡ length x → used + 8 ≤ length w → NewEntry l s g w' r x z
 
-module _ {s w : Bytes} {used place n : ℕ} (e : n ≡ get_or w place 0) where
+module _ {s w : Bytes} {used place : ℕ} where
   -- it is open already
-  pub list_open : n ≡ open_list → OpensList s w used place w used
+  pub list_open : get_or w place 0 ≡ open_list → OpensList s w used place w used
   list_open h l first code c small x y z k a held p (spell_raw i b r v, d) room =
-      absurd (omega (arith, h, e, byte_stands (subst (Stands w place) b (held_stands held p))))
+      absurd (omega (arith, h, byte_stands (subst (Stands w place) b (held_stands held p))))
   list_open h l first code c small x y z k a held p (spell_struct i m ys b q g d u r v, d2) room = absurd (not_list code c (inl (sym d2 ∙ d)))
   list_open h l first code c small x y z k a held p (spell_union i m ys b q g d u r v t, d2) room = absurd (not_list code c (inr (sym d2 ∙ d)))
   list_open h l first code c small x y z k a held p (spell_list i m ys f b q g d u r v t, d2) room = record {
@@ -134,12 +134,12 @@ module _ {s w : Bytes} {used place n : ℕ} (e : n ≡ get_or w place 0) where
   }
 
   -- it is opened
-  pub list_opened : {w₁ w₂ : Bytes} {m own child inner r : ℕ} → length w₁ ≡ length w → (n ≡ open_list → ⊥) → Ahead w place 1 m → own ≡ three w m → Ahead s own 1 child → Ahead w place 4 inner
+  pub list_opened : {w₁ w₂ : Bytes} {m own child inner r : ℕ} → length w₁ ≡ length w → (get_or w place 0 ≡ open_list → ⊥) → Ahead w place 1 m → own ≡ three w m → Ahead s own 1 child → Ahead w place 4 inner
       → SetsByte w used place open_list w₁ → InsertsEntry s w₁ used inner child w₂ r → OpensList s w used place w₂ r
   list_opened size never a o b f g i l first code c small x y z k t held p (spell_struct j m ys bs q h d u rw v, d2) room = absurd (not_list code c (inl (sym d2 ∙ d)))
   list_opened size never a o b f g i l first code c small x y z k t held p (spell_union j m ys bs q h d u rw v r, d2) room = absurd (not_list code c (inr (sym d2 ∙ d)))
   list_opened size never a o b f g i l first code c small x y z k t held p (spell_list j m ys q bs h d u r v pl w3, d2) room =
-      absurd (never (e ∙ byte_stands (subst (Stands w place) bs (held_stands held p))))
+      absurd (never (byte_stands (subst (Stands w place) bs (held_stands held p))))
   list_opened {w₁} {w₂} {m} {own} {child} {inner} {r} size never a o b f g i l first code c small x y z k t held p (spell_raw j bs ra v, d) room =
       let st = ra.stands in
       let q = only_child l ra.ordered t (subst (λ n. (n ≡ List') ⊎ (n ≡ LargeList)) (sym d) c) ra.well_formed in

@@ -8,8 +8,7 @@ use Rattle.model.specs.Merge as model
 use Rattle.walk.specs.Stands.{Stands}
 use Rattle.table.specs.Held.{Held}
 use Rattle.table.specs.Table.{no_place, SpellType}
-use Rattle.table.specs.Says.{Says}
-use Rattle.table.specs.declared.Merged.{Merged}
+use Rattle.table.specs.Says.{Merged, Says}
 
 -- Incoming parts
 

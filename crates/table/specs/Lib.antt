@@ -7,3 +7,4 @@ pub mod Becomes
 pub mod Opened
 pub mod Edits
 pub mod Pours
+pub mod Row

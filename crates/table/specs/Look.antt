@@ -1,10 +1,8 @@
 -- Looking up a name among the entries of a row.
-use Rattle.std.specs.Prelude.{ℕ, ◌+◌, ◌≤◌, ◌≡◌, List, [], ◌∷◌, ◌++◌, true, false, length}
+use Rattle.std.specs.Prelude.{ℕ, ◌+◌, ◌≤◌, ◌≡◌, List, [], ◌∷◌, ◌++◌, true, false, length, Result, Ok, Err}
 use Rattle.model.specs.Bytes.{Bytes, Every, same_bytes}
 use Rattle.model.specs.Tree.{Field}
 use Rattle.table.specs.Table.{no_entry, Rows, SpellField}
-use Rattle.table.specs.declared.Found.{Found}
-use Rattle.table.specs.declared.Found.TheVariants.{At, Absent}
 
 -- a place between the entries of a row that stands from `row` on: some stand before it, the others from it on
 pub record Cut (l : ℕ) (s : Bytes) (row k : ℕ) (y : Bytes) (fs : List (Field l)) (place : ℕ) : Type 0 where
@@ -46,6 +44,6 @@ pub record NotFound (l : ℕ) (row : ℕ) (y : Bytes) (fs : List (Field l)) (nam
   pub others : Every (λ f. same_bytes f.head.name name ≡ false) fs
   pub end : place + 1 ≡ row + length y
 
-abbrev pub Finds : (l : ℕ) (s : Bytes) (row k : ℕ) (y : Bytes) (fs : List (Field l)) (name : Bytes) → Found → Type 0
-Finds l s row k y fs name (At place) = FoundAt l s row k y fs name place
-Finds l s row k y fs name (Absent place) = NotFound l row y fs name place
+abbrev pub Finds : (l : ℕ) (s : Bytes) (row k : ℕ) (y : Bytes) (fs : List (Field l)) (name : Bytes) → Result ℕ ℕ → Type 0
+Finds l s row k y fs name (Ok place) = FoundAt l s row k y fs name place
+Finds l s row k y fs name (Err place) = NotFound l row y fs name place

@@ -7,8 +7,7 @@ use Rattle.model.specs.Merge.{pour}
 use Rattle.walk.specs.Stands.{Stands}
 use Rattle.table.specs.Held.{Held}
 use Rattle.table.specs.Table.{no_place}
-use Rattle.table.specs.Says.{Says}
-use Rattle.table.specs.declared.Merged.{Merged}
+use Rattle.table.specs.Says.{Merged, Says}
 
 -- P spells in the table what is merged into, `put` merges into it, `write` writes what comes in, of which W holds
 module _ {A B : Type 0} (P : ℕ → Bytes → A → Type 0) (put : A → B → model.Merged A) (write : B → Bytes) (W : B → Type 0) (s : Bytes) where

@@ -1,7 +1,7 @@
 -- The schema merged so far, as a table in the work buffer. The train stays where it is and is the only source of names, metadata and
 -- types; an entry of the table refers to it by places. Each relation says of some bytes y what they stand for in the train s, and how many
 -- bytes k they may grow to in all: what they were made of, four bytes for each byte, as the work buffer has them.
-use Rattle.std.specs.Prelude.{ℕ, zero, suc, ◌+◌, ◌*◌, ◌/◌, ◌%◌, ◌≤◌, ◌<◌, ◌≡◌, List, [], ◌∷◌, ◌++◌, Bool, true, false, ◌⊎◌, length, get_or, eqb}
+use Rattle.std.specs.Prelude.{ℕ, zero, suc, ◌+◌, ◌*◌, ◌/◌, ◌%◌, ◌≤◌, ◌<◌, ◌≡◌, List, [], ◌∷◌, ◌++◌, Bool, true, false, ◌⊎◌, length, get_or, eqb, cond}
 use Rattle.model.specs.Numbers.{max_levels}
 use Rattle.model.specs.Bytes.{Bytes, Metadata, Every}
 use Rattle.model.specs.Tree.{DataTypeOver, FieldOver, DataType, Field, Schema, Null, List', LargeList, Struct, Union}
@@ -9,6 +9,8 @@ use Rattle.model.specs.Sheet.{each, with_count, part, pair_bytes, field_bytes, t
 use Rattle.model.specs.WellFormed.{WellFormedField, WellFormedType, Whole}
 use Rattle.model.specs.Growth.{Distinct, names}
 use Rattle.walk.specs.Stands.{Stands, member_bytes}
+use Rattle.table.specs.declared.Kind.{Kind}
+use Rattle.table.specs.declared.Kind.TheVariants.{Raw, OpenStruct, OpenList, OpenUnion}
 
 -- a place of the train, in three bytes: a train has at most 256 times 65,535 bytes
 unfoldable pub u24 : ℕ → Bytes
@@ -42,6 +44,10 @@ open_list = 2
 -- each of its children stands in the train
 abbrev pub open_union : ℕ
 open_union = 3
+
+-- the kind of a byte
+unfoldable pub kind_of : ℕ → Kind
+kind_of b = cond (eqb b raw) Raw (cond (eqb b open_struct) OpenStruct (cond (eqb b open_list) OpenList OpenUnion))
 
 -- one behind the other
 pub data Rows {A : Type 0} (P : ℕ → Bytes → A → Type 0) : ℕ → Bytes → List A → Type 0 where

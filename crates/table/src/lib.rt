@@ -10,7 +10,7 @@ ghost use Rattle.model.specs.Sheet.{part, text_bytes, head_bytes};
 ghost use Rattle.buffer.specs.Buffer.{pasted};
 ghost use Rattle.walk.specs.Stands.{Stands, Skips};
 ghost use Rattle.table.specs.Held.{Held};
-ghost use Rattle.table.specs.Table.{three, u24, no_place, no_entry, raw, open_struct, places_bytes, SpellField, SpellType, SpellRow};
+ghost use Rattle.table.specs.Table.{three, kind_of, u24, no_place, no_entry, raw, open_struct, places_bytes, SpellField, SpellType, SpellRow};
 ghost use Rattle.table.specs.Look.{Cut, Finds};
 ghost use Rattle.table.specs.Becomes.{Incoming};
 ghost use Rattle.table.specs.Opened.{NewEntry, OpensList};
@@ -18,25 +18,15 @@ ghost use Rattle.table.specs.Edits.{InsertsPlace};
 
 use datatype::metadata::{has_name, name_of};
 
-// What a merge into the table ends with: so many bytes are in use then, or the number of the clash. The definition `Says` gives for each what
-// it says of the model's merge.
-#[derive(Clone, Copy)]
-pub enum Merged {
-    Used(usize),
-    Clash(u8),
-}
-
 // The number of three bytes at a place, the lowest first. Bytes past the end are 0.
+#[tactic(auto, unfolding(crate::specs::Table::three))]
 pub fn three(w: &[u8], at: usize) -> usize
     ensures { (result ≡ three w.now at) × (result < 16777216) }
 {
-    if w.len() <= at {
-        return 0;
+    if let Some([a, b, c, ..]) = w.get(at..) {
+        return u32::from_le_bytes([*a, *b, *c, 0]) as usize;
     }
-    if w.len() - at < 3 {
-        return walk::two(w, at);
-    }
-    buffer::wide(w[at]) + 256 * buffer::wide(w[at + 1]) + 65536 * buffer::wide(w[at + 2])
+    walk::two(w, at)
 }
 
 // What stands behind the last place of a row of places, and behind the last entry of a row of entries.
@@ -44,18 +34,76 @@ pub const NO_PLACE: usize = 16777215;
 
 pub const NO_ENTRY: usize = 255;
 
+// What stands for a type in its entry: its place in the train, where nothing was merged inside it; the entries of its children, of a struct or of
+// a list; or the places of its children in the train, of a union.
+#[derive(Clone, Copy, PartialEq, Eq)]
+pub enum Kind {
+    Raw,
+    OpenStruct,
+    OpenList,
+    OpenUnion,
+}
+
+// The kind at a place. A byte above 2 is a union's.
+#[tactic(auto, unfolding(crate::specs::Table::kind_of))]
+pub fn kind_at(w: &[u8], at: usize) -> Kind
+    ensures { result ≡ kind_of (get_or w.now at 0) }
+{
+    match walk::byte(w, at) {
+        0 => Kind::Raw,
+        1 => Kind::OpenStruct,
+        2 => Kind::OpenList,
+        _ => Kind::OpenUnion,
+    }
+}
+
+// What is left of a row of places of the train, which it gives one after the other, up to the mark; and where that begins. A row without a
+// mark ends with the table.
+#[derive(Clone, Copy)]
+pub struct PlaceRow<'a> {
+    w: &'a [u8],
+    pub at: usize,
+}
+
+impl<'a> PlaceRow<'a> {
+    // The row that begins at a place of the table.
+    pub fn new(w: &'a [u8], at: usize) -> Self
+        ensures { (result.w.now ≡ w.now) × (result.at ≡ at) }
+    {
+        PlaceRow { w, at }
+    }
+}
+
+impl Iterator for PlaceRow<'_> {
+    ghost use Rattle.std.specs.Prelude.{◌+◌, ◌-◌, ◌/◌, length};
+    ghost use Rattle.std.specs.Iterator.{at_most};
+    ghost use Rattle.table.specs.Row.{GivesPlace};
+
+    type Item = usize;
+
+    ghost next_gives = { GivesPlace };
+
+    ghost remaining = { λ s. at_most ((length s.w.now - s.at + 2) / 3) };
+
+    fn next(&mut self) -> Option<usize> {
+        if self.w.len() <= self.at {
+            return None;
+        }
+        let there = three(self.w, self.at);
+        if there == NO_PLACE {
+            return None;
+        }
+        self.at += 3;
+        Some(there)
+    }
+}
+
 // A row of places and its end.
 pub fn skip_places(w: &[u8], at: usize) -> usize
     ensures { (ps : List ℕ) → Every (λ p. p < no_place) ps → Skips w.now at (places_bytes ps) result }
 {
-    let mut place = at;
-    while place < w.len() {
-        if three(w, place) == NO_PLACE {
-            return walk::ahead(w, place, 3);
-        }
-        place += 3;
-    }
-    place
+    let count = PlaceRow::new(w, at).count();
+    walk::ahead(w, at, 3 * count + 3)
 }
 
 // The places of the pairs of an entry's metadata, if it has metadata of its own.
@@ -92,18 +140,13 @@ pub fn skip_type(w: &[u8], at: usize, levels: usize) -> usize
     if levels <= 0 {
         return at;
     }
-    let kind = walk::byte(w, at);
     let inner = walk::ahead(w, at, 4);
-    if kind == 0 {
-        return inner;
+    match kind_at(w, at) {
+        Kind::Raw => inner,
+        Kind::OpenStruct => skip_row(w, inner, levels - 1),
+        Kind::OpenList => skip_entry(w, inner, levels - 1),
+        Kind::OpenUnion => skip_places(w, inner),
     }
-    if kind == 1 {
-        return skip_row(w, inner, levels - 1);
-    }
-    if kind == 2 {
-        return skip_entry(w, inner, levels - 1);
-    }
-    skip_places(w, inner)
 }
 
 // A row of entries and its end.
@@ -130,67 +173,56 @@ pub fn skip_row(w: &[u8], at: usize, levels: usize) -> usize
 pub fn next_entry(w: &[u8], at: usize, levels: usize) -> usize
     ensures { (l : ℕ) (s : Bytes) (k : ℕ) (y : Bytes) (f : Field l) → l ≤ levels → SpellField l s k y f → Skips w.now at y result }
 {
-    if w.len() <= at {
-        return at;
+    if let Some([0..=3, _, _, _, 0, _, _, _, ..]) = w.get(at..) {
+        return at + 8;
     }
-    if w.len() - at < 8 {
-        return skip_entry(w, at, levels);
-    }
-    if 4 <= w[at] {
-        return skip_entry(w, at, levels);
-    }
-    if w[at + 4] != 0 {
-        return skip_entry(w, at, levels);
-    }
-    at + 8
+    skip_entry(w, at, levels)
 }
 
 // Whether an entry stands at a place of the table and has a name, which is given as `name_of` gives one.
 fn is_named(s: &[u8], w: &[u8], at: usize, name: &[u8]) -> bool
     ensures { ((l : ℕ) (k : ℕ) (y : Bytes) (f : Field l) (n : Bytes) → SpellField l s.now k y f → Stands w.now at y → name.now ≡ part text_bytes n → result ≡ same_bytes f.head.name n) × (get_or w.now at 0 ≡ no_entry → result ≡ false) }
 {
-    if walk::byte(w, at) == NO_ENTRY {
-        return false;
-    }
-    has_name(s, three(w, walk::ahead(w, at, 1)), name)
-}
-
-// The place of the entry of a name in a row, or that of the row's end.
-#[derive(Clone, Copy)]
-pub enum Found {
-    At(usize),
-    Absent(usize),
+    walk::byte(w, at) != NO_ENTRY && has_name(s, three(w, walk::ahead(w, at, 1)), name)
 }
 
 // The entry of a name, from a row's front on.
-fn scan(s: &[u8], w: &[u8], row: usize, name: &[u8], levels: usize) -> Found
+fn scan(s: &[u8], w: &[u8], row: usize, name: &[u8], levels: usize) -> Result<usize, usize>
     ensures { (l k : ℕ) (y : Bytes) (fs : List (Field l)) (n : Bytes) → l ≤ levels → SpellRow l s.now k y fs → Stands w.now row y → name.now ≡ part text_bytes n → Finds l s.now row k y fs n result }
 {
     let mut place = row;
     while place < w.len() {
         if walk::byte(w, place) == NO_ENTRY {
-            return Found::Absent(place);
+            return Err(place);
         }
         if is_named(s, w, place, name) {
-            return Found::At(place);
+            return Ok(place);
         }
         let next = next_entry(w, place, levels);
         if next <= place {
-            return Found::Absent(place);
+            return Err(place);
         }
         place = next;
     }
-    Found::Absent(place)
+    Err(place)
 }
 
 // The look-up of the merge: `SchemaBuilder::try_merge` looks for the first field of a name; no two entries of a row have one, so any is the
-// first. Names that come in the order of the row are found at the hint, the place behind the entry that was found last.
-pub fn find(s: &[u8], w: &[u8], row: usize, hint: usize, q: usize, levels: usize) -> Found
+// first. Names that come in the order of the row are found at the hint, the place behind the entry that was found last. It gives the entry's place,
+// or, as `binary_search` does, the one where such an entry goes: the row's end.
+pub fn find(
+    s: &[u8],
+    w: &[u8],
+    row: usize,
+    hint: usize,
+    q: usize,
+    levels: usize,
+) -> Result<usize, usize>
     ensures { (l k : ℕ) (y : Bytes) (fs : List (Field l)) (g : Head) → l ≤ levels → SpellRow l s.now k y fs → Stands w.now row y → Stands s.now q (head_bytes g) → Cut l s.now row k y fs hint → Finds l s.now row k y fs g.name result }
 {
     let name = name_of(s, q);
     if is_named(s, w, hint, name) {
-        return Found::At(hint);
+        return Ok(hint);
     }
     scan(s, w, row, name, levels)
 }
@@ -199,68 +231,41 @@ pub fn find(s: &[u8], w: &[u8], row: usize, hint: usize, q: usize, levels: usize
 pub fn overwrite(w: &mut [u8], used: usize, at: usize, v: &[u8])
     ensures { (length w.new ≡ length w.old) × ((x y z : Bytes) → Held w.old used x y z → at ≡ length x → length y ≡ length v.now → Held w.new used x v.now z) }
 {
-    if w.len() < at {
+    if w.len() < at || w.len() - at < v.len() {
         return;
     }
-    if w.len() - at < v.len() {
-        return;
-    }
-    buffer::copy_in(w, at, v);
-}
-
-// Moves the bytes from a place up to another so many bytes on, the last one first: the two stretches may overlap.
-fn move_up(w: &mut [u8], from: usize, to: usize, n: usize)
-    requires { (from ≤ to) × (to + n ≤ length w.old) }
-    ensures { w.new ≡ pasted w.old to (take n (drop from w.old)) }
-{
-    let mut i = n;
-    while 0 < i {
-        i -= 1;
-        w[to + i] = w[from + i];
-    }
+    w[at..at + v.len()].copy_from_slice(v);
 }
 
 // Puts bytes in at a place: what is in use behind it moves on. Gives how many bytes are in use then.
 pub fn insert(w: &mut [u8], used: usize, at: usize, v: &[u8]) -> usize
     ensures { (length w.new ≡ length w.old) × ((x z : Bytes) → Held w.old used x [] z → at ≡ length x → used + length v.now ≤ length w.old → (result ≡ used + length v.now) × Held w.new result x v.now z) }
 {
-    if used < at {
+    if used < at || w.len() < used || w.len() - used < v.len() {
         return used;
     }
-    if w.len() < used {
-        return used;
-    }
-    if w.len() - used < v.len() {
-        return used;
-    }
-    move_up(w, at, at + v.len(), used - at);
-    buffer::copy_in(w, at, v);
+    w.copy_within(at..used, at + v.len());
+    w[at..at + v.len()].copy_from_slice(v);
     used + v.len()
 }
 
-// A number's low byte.
-fn low(n: usize) -> u8
-    ensures { result ≡ n % 256 }
+// The three bytes of a place.
+#[tactic(auto, unfolding(crate::specs::Table::u24))]
+fn place_bytes(place: usize) -> [u8; 3]
+    ensures { result ≡ u24 place }
 {
-    (n % 256) as u8
+    let [a, b, c, ..] = place.to_le_bytes();
+    [a, b, c]
 }
 
 // The entry of a field of the train that nothing was merged into yet: nullable and ordered or not, its place, and its type's.
 pub fn insert_entry(s: &[u8], w: &mut [u8], used: usize, at: usize, q: usize) -> usize
     ensures { (length w.new ≡ length w.old) × ((l : ℕ) (g : Field l) (x z : Bytes) → Incoming l s.now q g → Held w.old used x [] z → at ≡ length x → used + 8 ≤ length w.old → NewEntry l s.now g w.new result x z) }
 {
-    let t = walk::skip_head(s, q);
-    let entry = [
-        low(walk::byte(s, q) % 4),
-        low(q),
-        low(q / 256),
-        low(q / 65536),
-        0,
-        low(t),
-        low(t / 256),
-        low(t / 65536),
-    ];
-    insert(w, used, at, &entry)
+    let flags = (walk::byte(s, q) % 4) as u8;
+    let [a, b, c] = place_bytes(q);
+    let [d, e, f] = place_bytes(walk::skip_head(s, q));
+    insert(w, used, at, &[flags, a, b, c, Kind::Raw as u8, d, e, f])
 }
 
 // The code of the type whose entry stands at a place.
@@ -274,71 +279,48 @@ pub fn code_at(s: &[u8], w: &[u8], at: usize) -> usize
 pub fn take_type(w: &mut [u8], used: usize, at: usize, t: usize)
     ensures { (length w.new ≡ length w.old) × ((x y z : Bytes) → Held w.old used x y z → at ≡ length x → length y ≡ 4 → Held w.new used x (raw ∷ u24 t) z) }
 {
-    let entry = [0, low(t), low(t / 256), low(t / 65536)];
-    overwrite(w, used, at, &entry);
+    let [a, b, c] = place_bytes(t);
+    overwrite(w, used, at, &[Kind::Raw as u8, a, b, c]);
 }
 
-// The order bit of an entry whose type has this code and that a field is merged into: its own, but "a Null column that takes a type takes
-// its order flag too". As the Rust merges, the two bits are equal there.
-fn order_of(flags: usize, map: usize, code: usize) -> usize
-    ensures { (result ≡ cond (eqb code 0) (map / 2 % 2) (flags / 2 % 2)) × (result < 2) }
-{
-    if code == 0 {
-        return map / 2 % 2;
-    }
-    flags / 2 % 2
-}
-
-// The flags of an entry that a field is merged into: its order bit; nullable if it was, or if any of these is so: the incoming field is
-// nullable, either type is Null.
+// The flags of an entry whose type has the first code when a field whose type has the second is merged into it. The order bit is its own, but "a
+// Null column that takes a type takes its order flag too"; as the Rust merges, the two bits are equal there. Nullable it is if it was, or if
+// any of these is so: the incoming field is nullable, either type is Null.
 pub fn flags_of(flags: usize, map: usize, mine: usize, theirs: usize) -> usize
     ensures { result ≡ flags / 4 * 4 + cond (eqb mine 0) (map / 2 % 2) (flags / 2 % 2) * 2 + flag 1 (eqb (flags % 2) 1 || eqb (map % 2) 1 || eqb mine 0 || eqb theirs 0) }
 {
-    let rest = flags / 4 * 4 + order_of(flags, map, mine) * 2;
-    if flags % 2 == 1 {
-        return rest + 1;
-    }
-    if map % 2 == 1 {
-        return rest + 1;
-    }
-    if mine == 0 {
-        return rest + 1;
-    }
-    if theirs == 0 {
-        return rest + 1;
-    }
-    rest
+    let ordered = if mine == 0 { map } else { flags };
+    let nullable = flags % 2 == 1 || map % 2 == 1 || mine == 0 || theirs == 0;
+    flags / 4 * 4 + ordered / 2 % 2 * 2 + usize::from(nullable)
 }
 
 // One byte over another.
 pub fn set_byte(w: &mut [u8], used: usize, at: usize, n: usize)
     ensures { (length w.new ≡ length w.old) × ((x z : Bytes) (b : ℕ) → Held w.old used x (b ∷ []) z → at ≡ length x → n < 256 → Held w.new used x (n ∷ []) z) }
 {
-    let byte = [low(n)];
-    overwrite(w, used, at, &byte);
+    overwrite(w, used, at, &[(n % 256) as u8]);
 }
 
 // A raw struct becomes an open one that has no children yet.
 pub fn open_struct(w: &mut [u8], used: usize, at: usize) -> usize
     ensures { (length w.new ≡ length w.old) × ((x z : Bytes) (p : ℕ) → Held w.old used x (raw ∷ u24 p) z → at ≡ length x → used + 1 ≤ length w.old → Held w.new result x (open_struct ∷ (u24 p ++ (no_entry ∷ []))) z) }
 {
-    set_byte(w, used, at, 1);
-    let end = [255];
-    let inner = walk::ahead(&w[..], at, 4);
-    insert(w, used, inner, &end)
+    set_byte(w, used, at, Kind::OpenStruct as usize);
+    let inner = walk::ahead(w, at, 4);
+    insert(w, used, inner, &[NO_ENTRY as u8])
 }
 
 // A raw list or large list becomes an open one with the entry of its child.
 pub fn open_list(s: &[u8], w: &mut [u8], used: usize, at: usize) -> usize
     ensures { (length w.new ≡ length w.old) × OpensList s.now w.old used at w.new result }
 {
-    if walk::byte(&w[..], at) == 2 {
+    if kind_at(w, at) == Kind::OpenList {
         return used;
     }
-    let own = three(&w[..], walk::ahead(&w[..], at, 1));
+    let own = three(w, walk::ahead(w, at, 1));
     let child = walk::ahead(s, own, 1);
-    let inner = walk::ahead(&w[..], at, 4);
-    set_byte(w, used, at, 2);
+    let inner = walk::ahead(w, at, 4);
+    set_byte(w, used, at, Kind::OpenList as usize);
     insert_entry(s, w, used, inner, child)
 }
 
@@ -346,10 +328,5 @@ pub fn open_list(s: &[u8], w: &mut [u8], used: usize, at: usize) -> usize
 pub fn insert_place(w: &mut [u8], used: usize, at: usize, place: usize) -> usize
     ensures { InsertsPlace w.old used at place w.new result }
 {
-    let bytes = [
-        (place % 256) as u8,
-        (place / 256 % 256) as u8,
-        (place / 65536 % 256) as u8,
-    ];
-    insert(w, used, at, &bytes)
+    insert(w, used, at, &place_bytes(place))
 }

@@ -1,5 +1,5 @@
 -- Equality of byte strings, eight bytes at a time and from the end.
-use Prim.Native.Nat.{ℕ, zero, suc, ◌+◌, ◌*◌, ◌-◌, ◌≤◌, ◌<◌}
+use Prim.Native.Nat.{ℕ, zero, suc, ◌+◌, ◌-◌, ◌≤◌, ◌<◌}
 use Prim.{Dec, yes, no}
 use native.Mathlib.Omega.{arith}
 use native.Mathlib.Nat.{add_assoc}
@@ -7,15 +7,19 @@ use native.Mathlib.Numerals.{add-one}
 use native.Mathlib.Decide.{dec_lt}
 use mathlib.Core.Path.{◌≡◌, refl, sym, ap, ◌∙◌}
 use mathlib.Core.List.{[], ◌∷◌}
-use mathlib.Core.Bool.{true, false}
+use mathlib.Core.Bool.{Bool, true, false, false≢true}
 use lib.ListN.{length, take, drop, get_or, length-take, length-drop, get_or-eq_default}
 use lib.Seq.{drop-cons, drop-drop, get_or-take, get_or-drop, take_all}
 use borrow.Author.Tests.{eq-eqb}
+use Rattle.std.specs.Prelude.{reverse}
+use Rattle.std.specs.Int.{w64, from_le_bytes}
+use Rattle.std.proofs.lemmas.List.{reverse-reverse}
+use Rattle.std.proofs.lemmas.Nat.{le_bytes_8}
 use Rattle.model.specs.Bytes.{Bytes, AreBytes, num, same, same_bytes}
-use Rattle.model.proofs.ByteStrings.{drop_next, same_bytes_refl, differ_same_bytes}
+use Rattle.model.proofs.ByteStrings.{same_bytes_refl, differ_same_bytes}
 
 -- eight bytes, written out
-pub eight : (l : Bytes) (i : ℕ) → i + 8 ≤ length l
+eight : (l : Bytes) (i : ℕ) → i + 8 ≤ length l
     → take 8 (drop i l) ≡ get_or l i 0 ∷ get_or l (i + 1) 0 ∷ get_or l (i + 2) 0 ∷ get_or l (i + 3) 0 ∷ get_or l (i + 4) 0 ∷ get_or l (i + 5) 0 ∷ get_or l (i + 6) 0 ∷ get_or l (i + 7) 0 ∷ []
 eight l i h =
     let s : (k : ℕ) → k < 8 → drop (i + k) l ≡ get_or l (i + k) 0 ∷ drop (i + (k + 1)) l =
@@ -24,18 +28,10 @@ eight l i h =
     let s₀ : drop i l ≡ get_or l i 0 ∷ drop (i + 1) l = rw z at (s 0 (omega arith)) in
     rw (s₀, s 1 (omega arith), s 2 (omega arith), s 3 (omega arith), s 4 (omega arith), s 5 (omega arith), s 6 (omega arith), s 7 (omega arith))
 
-digit : (a b x y : ℕ) → a < 256 → b < 256 → a + 256 * x ≡ b + 256 * y → (a ≡ b) × (x ≡ y)
-digit a b x y ha hb e = omega arith
-
--- bytes are told by their number
-num_one : (a b : Bytes) → AreBytes a → AreBytes b → length a ≡ length b → num a ≡ num b → a ≡ b
+-- the library's number of eight bytes
+pub num_eight : (l : Bytes) (i : ℕ) → i + 8 ≤ length l → from_le_bytes w64 (take 8 (drop i l)) ≡ num (take 8 (drop i l))
 unfolding num
-num_one [] [] ha hb l e = refl
-num_one [] (y ∷ b) ha hb l e = absurd (omega (arith, l))
-num_one (x ∷ a) [] ha hb l e = absurd (omega (arith, l))
-num_one (x ∷ a) (y ∷ b) ha hb l e =
-    let (p, q) = digit x y (num a) (num b) (ha 0) (hb 0) e in
-    ap (λ z. z ∷ a) p ∙ ap (λ z. y ∷ z) (num_one a b (λ k. ha (suc k)) (λ k. hb (suc k)) (omega (arith, l)) q)
+num_eight l i h = rw (eight l i h) (omega arith)
 
 part_bytes : (x : Bytes) (i : ℕ) → AreBytes x → AreBytes (take 8 (drop i x))
 part_bytes x i h k = go (dec_lt k 8)
@@ -59,7 +55,9 @@ same_beyond (suc n) (x ∷ a) (y ∷ b) e =
 module _ (a b : Bytes) (l : length a ≡ length b) (i : ℕ) (h : i + 8 ≤ length a) where
   word_told : AreBytes a → AreBytes b → num (take 8 (drop i a)) ≡ num (take 8 (drop i b)) → take 8 (drop i a) ≡ take 8 (drop i b)
   word_told ha hb e =
-      num_one (take 8 (drop i a)) (take 8 (drop i b)) (part_bytes a i ha) (part_bytes b i hb) (simp (length-take, length-drop) (omega arith)) e
+      let k : i + 8 ≤ length b = omega arith in
+      sym (le_bytes_8 (take 8 (drop i a)) _ (simp (length-take, length-drop) (omega arith)) (part_bytes a i ha) (sym (num_eight a i h)))
+      ∙ le_bytes_8 (take 8 (drop i b)) _ (simp (length-take, length-drop) (omega arith)) (part_bytes b i hb) (e ∙ sym (num_eight b i k))
 
   -- past eight bytes of one number
   pub word_next : AreBytes a → AreBytes b → num (take 8 (drop i a)) ≡ num (take 8 (drop i b)) → same_bytes (drop (i + 8) a) (drop (i + 8) b) ≡ same_bytes (drop i a) (drop i b)
@@ -81,14 +79,9 @@ word_end a b i last h e f =
     let g : drop i a ≡ drop i b = rw (← m, ← drop-drop (i - last) last a, ← drop-drop (i - last) last b, e) in
     sym (same_bytes_refl (drop i b)) ∙ ap (λ z. same_bytes z (drop i b)) (sym g) ∙ f
 
--- From the end
-
--- one equal byte more
-pub drop_before : (a b : Bytes) (i : ℕ) → i < length a → i < length b → get_or a i 0 ≡ get_or b i 0 → drop (i + 1) a ≡ drop (i + 1) b → drop i a ≡ drop i b
-drop_before a b i h k e f = drop_next a i h ∙ ap (λ z. z ∷ drop (i + 1) a) e ∙ ap (λ z. get_or b i 0 ∷ z) f ∙ sym (drop_next b i k)
-
-pub byte_differs : (a b : Bytes) (i : ℕ) → (get_or a i 0 ≡ get_or b i 0 → ⊥) → same_bytes a b ≡ false
-byte_differs a b i h = differ_same_bytes a b λ e. h (ap (λ (x : Bytes). get_or x i 0) e)
-
-pub equal_same : (a b : Bytes) → a ≡ b → true ≡ same_bytes a b
-equal_same a b e = sym (ap (λ z. same_bytes z b) e ∙ same_bytes_refl b)
+-- From the end: a test that is true of equal byte strings, and of none that differ when read from there
+pub told_from_end : (r : Bool) (a b : Bytes) → (a ≡ b → r ≡ true) → (r ≡ true → reverse a ≡ reverse b) → r ≡ same_bytes a b
+told_from_end true a b h k =
+    let e : a ≡ b = sym (reverse-reverse a) ∙ ap reverse (k refl) ∙ reverse-reverse b in
+    sym (rw e (same_bytes_refl b))
+told_from_end false a b h k = sym (differ_same_bytes a b λ e. false≢true (h e))

@@ -15,9 +15,8 @@ use Rattle.walk.specs.Stands.{Stands, Skips, ColumnsAt}
 use Rattle.datatype.specs.Comparisons.{PairsAt}
 use Rattle.table.specs.Held.{Held}
 use Rattle.table.specs.Table.{no_place, places_bytes, Places, SpellRow, SpellSchema}
-use Rattle.table.specs.Says.{Says}
-use Rattle.table.specs.declared.Merged.{Merged}
-use Rattle.table.specs.declared.Merged.TheVariants.{Used, Clash}
+use Rattle.table.specs.Says.{Merged, Says}
+use Rattle.std.proofs.Common.{Ok, Err}
 use Rattle.table.proofs.Held.{held_stands, held_as}
 use Rattle.table.proofs.Says.{says_in}
 use Rattle.table.proofs.Places.{places_fit}
@@ -65,7 +64,7 @@ module _ (parked : Bool) where
         (omega (arith, room, e.room, columns_fit a e.columns, length-append e.columns_bytes z))
 
     -- 25
-    pub sheet_stopped : {n : ℕ} → got ≡ Clash n → MergesSheet parked s w used q w₁ got
+    pub sheet_stopped : {n : ℕ} → got ≡ Err n → MergesSheet parked s w used q w₁ got
     unfolding merge_schema ◌>>=◌
     sheet_stopped {n} c = record {
       same_length = m.same_length;
@@ -76,7 +75,7 @@ module _ (parked : Bool) where
     }
 
     -- and then the columns, of which `n` stand at c, into the row behind the places
-    pub sheet_merged : {kept row n c : ℕ} {w₂ : Bytes} {r : Merged} → got ≡ Used kept → ((ps : List ℕ) → Every (λ p. p < no_place) ps → Skips w₁ 0 (places_bytes ps) row)
+    pub sheet_merged : {kept row n c : ℕ} {w₂ : Bytes} {r : Merged} → got ≡ Ok kept → ((ps : List ℕ) → Every (λ p. p < no_place) ps → Skips w₁ 0 (places_bytes ps) row)
         → ((x : Schema) → Stands s q (sheet_bytes x) → ColumnsAt s q x n c) → length w₂ ≡ length w₁ → Pours parked max_levels s w₁ kept row c n w₂ r → MergesSheet parked s w used q w₂ r
     unfolding merge_schema ◌>>=◌
     sheet_merged {kept} {row} {n} {c} {w₂} {r} g sk find same pours = record {

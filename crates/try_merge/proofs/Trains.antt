@@ -18,12 +18,14 @@ use Rattle.model.proofs.WellFormed.{columns_laid_out}
 use Rattle.walk.specs.Stands.{Stands, SkipsSheet}
 use Rattle.walk.proofs.Standing.{whole_stands, first_stands, second_stands}
 use Rattle.sheet.specs.Answers.{step_of}
-use Rattle.sheet.specs.declared.Step.{Step}
+use Rattle.std.specs.Prelude.{Result, Ok, Err}
+use Rattle.buffer.specs.declared.refusal.Number.{Number}
+use Rattle.buffer.specs.declared.refusal.Refusal.{Refusal}
+use Rattle.buffer.specs.Refusals.{number_of, numbered}
 use Rattle.table.specs.Held.{Held}
 use Rattle.table.specs.Table.{no_place, no_entry, u24, none, SpellSchema}
 use Rattle.table.specs.Says.{Says}
-use Rattle.table.specs.declared.Merged as table
-use Rattle.table.specs.declared.Merged.TheVariants.{Used, Clash}
+use Rattle.table.specs.Says as table
 use Rattle.table.proofs.Held.{held_stands}
 use Rattle.table.proofs.Places.{places_none}
 use Rattle.try_merge.specs.Claims.{empty_table, added, BeginsTable, MergesSheet, Spelt, MergesSheets}
@@ -116,7 +118,7 @@ module _ (parked : Bool) where
 
   module _ {s w₀ w : Bytes} {used place sheet : ℕ} (m : Merging s w₀ w used place sheet) where
     -- nothing is left
-    ended : (xs : List Schema) (o : Left s w used place sheet xs) → o.left ≡ [] → (Step.Next sheet ≡ step_of (try_merge parked xs)) × ((x : Schema) (n : ℕ) → try_merge parked xs ≡ got x n → Spelt s w x)
+    ended : (xs : List Schema) (o : Left s w used place sheet xs) → o.left ≡ [] → (Ok sheet ≡ step_of (try_merge parked xs)) × ((x : Schema) (n : ℕ) → try_merge parked xs ≡ got x n → Spelt s w x)
     unfolding merge_from
     ended xs o e =
         let all : try_merge parked xs ≡ got o.merged sheet = o.is ∙ ap (merge_from parked sheet o.merged) e in (
@@ -131,13 +133,13 @@ module _ (parked : Bool) where
     none_left_lem [] e = refl
     none_left_lem (y ∷ ys) e = absurd (omega (arith, e, sheet_size y, length-append (sheet_bytes y) (each sheet_bytes ys)))
 
-    pub merging_ended : length s ≤ place → MergesSheets parked s w₀ w (Step.Next sheet)
+    pub merging_ended : length s ≤ place → MergesSheets parked s w₀ w (Ok sheet)
     merging_ended h = record {
       same_length = m.same;
       merges = λ xs e f n one room. let o = m.so xs e f n one room in ended xs o (none_left_lem o.left (omega (arith, h, o.ends)));
     }
 
-    pub merging_full : max_sheets ≤ sheet → MergesSheets parked s w₀ w (Step.Next sheet)
+    pub merging_full : max_sheets ≤ sheet → MergesSheets parked s w₀ w (Ok sheet)
     merging_full h = record {
       same_length = m.same;
       merges = λ xs e f n one room. let o = m.so xs e f n one room in ended xs o (empty_list o.left (omega (arith, h, n, o.counted)));
@@ -168,7 +170,7 @@ module _ (parked : Bool) where
           go [] h = absurd (omega (arith, h, before))
           go (y ∷ ys) h = (y, ys, refl)
 
-      pub merging_stop : {n : ℕ} → r ≡ Clash n → MergesSheets parked s w₀ w₁ (Step.Refused n sheet)
+      pub merging_stop : {n : Number} → r ≡ Err n → MergesSheets parked s w₀ w₁ (Err (record { 0 = n; 1 = sheet }))
       merging_stop {n} c = record {
         same_length = g.same_length ∙ m.same;
         merges = λ xs e f k one room.
@@ -176,14 +178,14 @@ module _ (parked : Bool) where
             let (y, ys, l) = split xs o in
             let (st, fy, fs, long, t) = said xs o y ys l room in
             let t₁ = subst (λ r. Says (SpellSchema s) (o.table_room + added y) [] [] w₁ r (merge_schema parked o.merged y)) c t in
-            let all : try_merge parked xs ≡ bad n sheet = o.is ∙ ap (merge_from parked sheet o.merged) l ∙ from_clash sheet o.merged y ys t₁ in
+            let all : try_merge parked xs ≡ bad (number_of n) sheet = o.is ∙ ap (merge_from parked sheet o.merged) l ∙ from_clash sheet o.merged y ys t₁ in
             (sym (ap step_of all), λ x j t. absurd (never (sym all ∙ t)));
       }
         where
           never : {x : Schema} {i j k : ℕ} → ◌≡◌ {A = read.Step Schema} (bad i j) (got x k) → ⊥
           never e = let z : ◌≡◌ {A = ℕ} 0 1 = cc in omega arith
 
-      pub merging_again : {end behind : ℕ} → r ≡ Used end → SkipsSheet s place behind → Merging s w₀ w₁ end behind (sheet + 1)
+      pub merging_again : {end behind : ℕ} → r ≡ Ok end → SkipsSheet s place behind → Merging s w₀ w₁ end behind (sheet + 1)
       merging_again {end} {behind} c sk = record {
         same = g.same_length ∙ m.same;
         so = λ xs e f k one room.
@@ -210,5 +212,5 @@ module _ (parked : Bool) where
       }
 
   -- of a work buffer, nothing but its length is told before
-  pub merges_since : {s w₀ w₁ w : Bytes} {r : Step} → length w₁ ≡ length w₀ → MergesSheets parked s w₁ w r → MergesSheets parked s w₀ w r
+  pub merges_since : {s w₀ w₁ w : Bytes} {r : Result ℕ Refusal} → length w₁ ≡ length w₀ → MergesSheets parked s w₁ w r → MergesSheets parked s w₀ w r
   merges_since e m = record { same_length = m.same_length ∙ e; merges = λ xs i f k one room. m.merges xs i f k one (omega (arith, e, room)) }

@@ -1,5 +1,5 @@
 -- What the functions that merge the sheets of a train promise: s is the train, w the work buffer before, w' after.
-use Rattle.std.specs.Prelude.{ℕ, ◌+◌, ◌*◌, ◌≤◌, ◌<◌, ◌≡◌, List, [], ◌∷◌, ◌++◌, Bool, length}
+use Rattle.std.specs.Prelude.{ℕ, ◌+◌, ◌*◌, ◌≤◌, ◌<◌, ◌≡◌, List, [], ◌∷◌, ◌++◌, Bool, length, Result}
 use Rattle.model.specs.Numbers.{max_sheets, work_bytes_per_sheet_byte}
 use Rattle.model.specs.Bytes.{Bytes, Every}
 use Rattle.model.specs.Tree.{Schema}
@@ -9,11 +9,12 @@ use Rattle.model.specs.Read.{got}
 use Rattle.model.specs.Merge.{merge_schema, try_merge}
 use Rattle.walk.specs.Stands.{Stands}
 use Rattle.sheet.specs.Answers.{step_of}
-use Rattle.sheet.specs.declared.Step.{Step}
+use Rattle.buffer.specs.declared.refusal.Refusal.{Refusal}
+use Rattle.buffer.specs.Refusals.{numbered}
 use Rattle.table.specs.Held.{Held}
 use Rattle.table.specs.Table.{u24, no_place, no_entry, SpellSchema}
 use Rattle.table.specs.Becomes.{Becomes}
-use Rattle.table.specs.declared.Merged.{Merged}
+use Rattle.table.specs.Says.{Merged}
 
 -- the table of the empty schema
 abbrev pub empty_table : Bytes
@@ -41,7 +42,7 @@ pub record Spelt (s w : Bytes) (x : Schema) : Type 0 where
   pub stands : Stands w 0 spelt
 
 -- all sheets of a train
-pub record MergesSheets (parked : Bool) (s w w' : Bytes) (r : Step) : Type 0 where
+pub record MergesSheets (parked : Bool) (s w w' : Bytes) (r : Result ℕ Refusal) : Type 0 where
   pub same_length : length w' ≡ length w
   pub merges : (xs : List Schema) → s ≡ each sheet_bytes xs → Every Fits xs → length xs ≤ max_sheets → 1 ≤ length s → work_bytes_per_sheet_byte * length s ≤ length w
-      → (r ≡ step_of (try_merge parked xs)) × ((x : Schema) (n : ℕ) → try_merge parked xs ≡ got x n → Spelt s w' x)
+      → (numbered r ≡ step_of (try_merge parked xs)) × ((x : Schema) (n : ℕ) → try_merge parked xs ≡ got x n → Spelt s w' x)

@@ -18,11 +18,6 @@ use Rattle.walk.proofs.Parts.{Ahead}
 use Rattle.walk.proofs.Descents.{type_stands, code_stands, children_stand}
 
 module _ {s : Bytes} {place : ℕ} (levels : ℕ) where
-  -- no type is of no level
-  pub none_nested : (r : Bool) → levels ≡ 0 → TellsNested s place levels r
-  none_nested r h zero t k w st = absurd w
-  none_nested r h (suc l) t k w st = absurd (omega (arith, h, k))
-
   module _ {code : ℕ} (e : code ≡ get_or s place 0) where
     pub plain_nested : {r : Bool} → (code ≡ Dictionary → ⊥) → (code ≡ RunEndEncoded → ⊥) → r ≡ holds_fields code → TellsNested s place levels r
     unfolding is_nested encodes choose

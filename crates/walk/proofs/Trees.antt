@@ -29,11 +29,6 @@ module _ {s : Bytes} {place : ℕ} (levels : ℕ) where
       (subst (λ c. Skips s children (children_bytes (type_bytes l) (layout c).children t.children) r) w
       (g l t.children (omega arith) (subst (λ c. CountFits (layout c).children t.children) (sym w) n) q)))
 
-  -- no type is of no level
-  pub no_level : (r : ℕ) → levels ≡ 0 → SkipsType s place levels r
-  no_level r h zero t k w = absurd w
-  no_level r h (suc l) t k w = absurd (omega (arith, h, k))
-
 -- Children by their kind
 
 module _ {s : Bytes} {place : ℕ} (levels code : ℕ) where

@@ -8,15 +8,12 @@ use Rattle.model.specs.Bytes.{Bytes, Every}
 use Rattle.model.specs.Sheet.{each}
 use Rattle.model.proofs.Lists.{each_append}
 use Rattle.walk.specs.Stands.{Skips}
-use Rattle.walk.proofs.Passed.{Passed, passed_begin, passed_again, passed_done}
+use Rattle.walk.proofs.Passed.{Passed, passed_again, passed_done}
 
 module _ {A : Type 0} (W : A → Type 0) (f : A → Bytes) (s : Bytes) where
   -- of so many that stand from `first` on, i have been passed; the place is behind them
   abbrev pub Turns : (first count place i : ℕ) → Type 0
   Turns first count place i = Passed W f s (λ done. place ≡ first + length (each f done)) first count place i
-
-  pub turns_begin : (first count : ℕ) → Turns first count first 0
-  turns_begin first count = passed_begin W f s first count (omega arith)
 
   pub turns_again : {first count place i r : ℕ} → Turns first count place i → i < count → ((x : A) → W x → Skips s place (f x) r) → Turns first count r (i + 1)
   turns_again t h g =

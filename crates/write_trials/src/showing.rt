@@ -1,25 +1,31 @@
 // What a trial shows.
-use buffer::Outcome;
+use buffer::{Outcome, Refusal};
 use std::io;
 
-// The first bytes of a line, as many as there are of it.
-fn write_front(rt: &impl Print, line: &[u8], length: usize) -> io::Result<()> {
-    if length <= line.len() {
-        rt.write_all(&line[..length])?;
-    }
-    Ok(())
-}
-
-// What was called, then the line as the program merge prints it.
-pub fn show(rt: &impl Print, what: &str, outcome: Outcome, answer: &[u8]) -> io::Result<()> {
-    let mut line = [0u8; 100];
-    let length = line::put_line(&mut line, outcome, answer);
+// Makes a call with buffers that hold what every trial here wants, and shows what was called, then the line as the program merge prints it.
+pub fn show<F: FnOnce(&mut [u8], &mut [u8]) -> Result<usize, Refusal>>(
+    rt: &impl Print,
+    what: &str,
+    call: F,
+) -> io::Result<()>
+    requires { F.IsAlwaysCallable call }
+{
+    let mut work = [0u8; 1100];
+    let mut answer = [0u8; 100];
+    let mut line = [0u8; 250];
+    let answered = call(&mut work, &mut answer);
+    let length = line::put_line(&mut line, answered, &answer);
     print!(rt; "{what}: ")?;
-    write_front(rt, &line, length)
+    rt.write_all(line.get(..length).unwrap_or(&line))
 }
 
 // What was called, then number, place, and the answer's length.
-pub fn show_length(rt: &impl Print, what: &str, outcome: Outcome) -> io::Result<()> {
+pub fn show_length(
+    rt: &impl Print,
+    what: &str,
+    answered: Result<usize, Refusal>,
+) -> io::Result<()> {
+    let outcome = Outcome::from(answered);
     println!(rt;
         "{what}: {} {}, {} bytes",
         outcome.number, outcome.place, outcome.length

@@ -1,6 +1,6 @@
--- `has_places`: a row that has none begins with its end.
+-- `has_places`: the row gives one, or none.
 use Rattle.emit.proofs.Copies.{has_places}
 use Rattle.emit.proofs.has_places.Goals as goal
 
 pub returns : goal.returns
-returns c = has_places c.three.ensures.0
+returns c = rw c.is_some.ensures (has_places c.new.result c.next.new.self c.new.ensures c.next.result c.next.ensures.steps)

@@ -1,5 +1,5 @@
 -- A field, its type, and what the type holds. The levels left fall from a type to what it holds, and each function calls on one that stands before it at equal levels.
-use Prim.Native.Nat.{◌+◌, ◌*◌}
+use Prim.Native.Nat.{◌+◌, ◌*◌, ◌-◌}
 use Rattle.field.proofs.Pouring.{Pouring}
 use Rattle.field.proofs.+merging.Given as goal
 
@@ -30,8 +30,5 @@ decreases-pour_own l = 8 * l.levels + 6
 abbrev pub decreases-put : goal.decreases-put
 decreases-put l = 8 * l.levels + 4
 
-abbrev pub invariant-pour-loop-left : goal.invariant-pour-loop-left
-invariant-pour-loop-left l = Pouring l.parked l.levels l.s l.initial.w l.w l.used l.row l.q l.count l.held l.hint l.place l.left
-
-abbrev pub decreases-pour-loop-left : goal.decreases-pour-loop-left
-decreases-pour-loop-left l = l.left
+abbrev pub invariant-pour-loop : goal.invariant-pour-loop
+invariant-pour-loop l = Pouring l.parked l.levels l.s l.initial.w l.w l.used l.row l.fn.fields.at l.fn.fields.count l.held l.hint l.place (l.end - l.counter)

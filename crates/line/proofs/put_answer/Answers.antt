@@ -1,21 +1,15 @@
 -- `put_answer`: `-`, or the answer in hex.
-use mathlib.Core.Path.{sym}
-use native.Mathlib.Omega.{arith}
-use lib.Seq.{length-take-le}
-use Rattle.line.proofs.Lines.{answer_refused, answer_whole, answer_part}
+use mathlib.Core.Path.{ap}
+use Rattle.std.proofs.lemmas.List.{take_min}
+use Rattle.model.specs.Sheet.{each}
+use Rattle.model.specs.Program.{hex_byte}
+use Rattle.buffer.proofs.Puts.{puts_same}
+use Rattle.line.proofs.Lines.{answer_refused, answer_part}
 use Rattle.line.proofs.put_answer.Goals as goal
 
-pub returns-then-outcome-ne-ACCEPTED : goal.returns-then-outcome-ne-ACCEPTED
-returns-then-outcome-ne-ACCEPTED c work =
-    answer_refused _ _ work c.if-outcome-ne-ACCEPTED.true c.put_one.ensures
+pub returns-in-Err : goal.returns-in-Err
+returns-in-Err c work = answer_refused _ work c.in-Err.is c.put_one.ensures
 
-pub returns-then-answer-length : goal.returns-then-answer-length
-returns-then-answer-length c work =
-    answer_whole _ _ work (omega arith) c.if-answer-length.true c.put_hex.ensures
-
-pub slice_bounds-put_hex-end : goal.slice_bounds-put_hex-end
-slice_bounds-put_hex-end c = sym (length-take-le _ _ (omega arith))
-
-pub returns : goal.returns
-returns c work =
-    answer_part _ _ work (omega arith) c.put_hex-2.ensures
+pub returns-in-Ok : goal.returns-in-Ok
+returns-in-Ok c work =
+    answer_part _ work c.in-Ok.is (puts_same (ap (each hex_byte) (rw c.min.ensures (take_min _ _))) c.put_hex.ensures)

@@ -1,19 +1,16 @@
--- `put_hex`: i bytes are written.
-use native.Mathlib.Omega.{arith}
-use mathlib.Core.Path.{refl}
-use Rattle.buffer.proofs.Puts.{puts_none}
-use Rattle.line.proofs.Lines.{hex_turn, hex_done}
+-- `put_hex`: the digits are written where they fit.
+use Rattle.std.specs.Prelude.{Result, Ok, Err, IsOk, OnOk}
+use Rattle.line.proofs.Lines.{hex_counted, hex_written}
 use Rattle.line.proofs.put_hex.Goals as goal
 
-pub loop-i-preserved : goal.loop-i-preserved
-loop-i-preserved c =
-    (omega arith, hex_turn _ _ c.loop-i-test.true c.loop-i.invariant.1 c.hex_digit.ensures c.hex_digit-in-loop-i.ensures c.put-end.ensures)
+on_ok : {T E P : Type 0} (r : Result T E) → IsOk r → OnOk r P → P
+on_ok (Ok x) h p = p
+on_ok (Err e) h p = cc h
 
-pub loop-i-init : goal.loop-i-init
-loop-i-init c = (refl, puts_none)
+pub returns-then-end-dst : goal.returns-then-end-dst
+returns-then-end-dst c =
+    let h = c.encode_to_slice.ensures in
+    hex_written _ _ (λ k. (c.type_inv.bytes k).fits) c.saturating_add-end.ensures c.if-end-dst.true c.encode_to_slice.auto.output (λ e. on_ok _ (h.fits.1 e) h.written)
 
-pub hex_digit-requires : goal.hex_digit-requires
-hex_digit-requires c = omega (arith, c.type_inv.bytes c.loop-i.i)
-
-pub returns : goal.returns
-returns c = hex_done _ _ c.loop-i-test.false c.loop-i.invariant.1
+pub returns-else-end-dst : goal.returns-else-end-dst
+returns-else-end-dst c = hex_counted _ c.saturating_add-end.ensures c.if-end-dst.false

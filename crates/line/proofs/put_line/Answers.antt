@@ -1,7 +1,10 @@
 -- `put_line`: six pieces, one behind the other.
+use mathlib.Core.Path.{ap}
+use Rattle.model.specs.Program.{decimal}
+use Rattle.buffer.proofs.Puts.{puts_same}
 use Rattle.line.proofs.Lines.{line_put}
 use Rattle.line.proofs.put_line.Goals as goal
 
 pub returns : goal.returns
 returns c work =
-    line_put _ _ work c.put_decimal-number.ensures c.put_one-space.ensures c.put_decimal-place.ensures c.put_one-second_space.ensures (c.put_answer-shown.ensures work) c.put_one.ensures
+    line_put _ _ _ work c.from-outcome.ensures (puts_same (ap decimal c.from.ensures) c.put_decimal-number.ensures) c.put_one-space.ensures c.put_decimal-place.ensures c.put_one-second_space.ensures (c.put_answer-shown.ensures work) c.put_one.ensures

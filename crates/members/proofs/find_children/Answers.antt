@@ -3,4 +3,4 @@ use Rattle.members.proofs.Members.{children_found}
 use Rattle.members.proofs.find_children.Goals as goal
 
 pub returns : goal.returns
-returns c = children_found c.ahead-place.ensures c.two.ensures.0 c.ahead.ensures
+returns c = let e = c.counted.ensures in children_found c.ahead.ensures e.count e.at

@@ -1,18 +1,27 @@
--- `find_member`: one child after the other, up to the first that is equal.
-use Rattle.members.proofs.Searching.{find_begin, find_out, find_end, find_here, find_again}
+-- `find_member`: the first child that is equal, or where the row ends.
+use mathlib.Core.Bool.{true, false}
+use Rattle.std.proofs.Common.{rules, Some, None}
+use borrow.Author.Tests.{tests}
+use Rattle.std.proofs.lemmas.Iterator.{first_from_find}
+use Rattle.table.proofs.Given.{row_gives, row_ends}
+use Rattle.members.specs.Claims.{SameMembers}
+use Rattle.members.proofs.Searching.{find_here, find_none}
 use Rattle.members.proofs.find_member.Goals as goal
 
-pub returns-then-same_member : goal.returns-then-same_member
-returns-then-same_member c = find_here c.loop-place.invariant c.three-there.ensures.0 c.if-there-eq-NO_PLACE.false c.same_member.ensures c.if-same_member.true c.by_id.ensures
+pub returns-in-Some : goal.returns-in-Some
+returns-in-Some c =
+    let a = c.args in
+    find_here {there = c.in-Some.there}
+    (λ ps g st.
+    first_from_find c.find.new.self _ (Some c.in-Some.there) (λ p. SameMembers a.s.now a.q p a.levels true) (λ p. SameMembers a.s.now a.q p a.levels false) c.in-Some.ensures.ran (row_gives ps c.new-children.ensures g st)
+    (λ x q k. search (rules, tests)) (λ x q k. search (rules, tests))) c.by_id.ensures
 
-pub loop-place-init : goal.loop-place-init
-loop-place-init c = find_begin
-
-pub returns-then-there-eq-NO_PLACE : goal.returns-then-there-eq-NO_PLACE
-returns-then-there-eq-NO_PLACE c = find_end c.loop-place.invariant c.three-there.ensures.0 c.if-there-eq-NO_PLACE.true
-
-pub loop-place-preserved : goal.loop-place-preserved
-loop-place-preserved c = find_again c.loop-place.invariant c.three-there.ensures.0 c.if-there-eq-NO_PLACE.false c.same_member.ensures c.if-same_member.false
-
-pub returns : goal.returns
-returns c = find_out c.loop-place.invariant c.loop-place-test.false
+pub returns-in-None : goal.returns-in-None
+returns-in-None c =
+    let a = c.args in
+    let ran = c.in-None.ensures.ran in
+    find_none λ ps g st. (
+      first_from_find c.find.new.self _ None (λ p. SameMembers a.s.now a.q p a.levels true) (λ p. SameMembers a.s.now a.q p a.levels false) ran (row_gives ps c.new-children.ensures g st)
+          (λ x q k. search (rules, tests)) (λ x q k. search (rules, tests)),
+      row_ends ps c.new-children.result c.find.new.self c.new-children.ensures g st ran.0 ran.2,
+    )

@@ -1,18 +1,21 @@
 -- `ids_differ`: of each child, whether one behind it has its id.
-use Rattle.members.proofs.Searching.{differ_begin, differ_out, differ_end, differ_not, differ_again}
+use native.Mathlib.Omega.{arith}
+use mathlib.Core.Path.{ap}
+use lib.ListN.{length}
+use Rattle.members.proofs.Searching.{differ_begin, differ_end, differ_stop, differ_on}
 use Rattle.members.proofs.ids_differ.Goals as goal
 
+pub loop-there-init : goal.loop-there-init
+loop-there-init c = let n = c.new-behind.ensures in (n.0, differ_begin n.1)
+
+pub loop-there-preserved : goal.loop-there-preserved
+loop-there-preserved c = differ_on c.loop-there.behind c.next.new.self c.loop-there.invariant c.in-Some.ensures.steps c.byte.ensures.0 c.has_id.ensures c.if-has_id.false
+
+pub loop-there-smaller : goal.loop-there-smaller
+loop-there-smaller c = let g = c.in-Some.ensures.steps in omega (arith, g.1.2, g.1.3, ap length c.loop-there.invariant.0)
+
 pub returns-then-has_id : goal.returns-then-has_id
-returns-then-has_id c = differ_not c.loop-place.invariant c.three-there.ensures.0 c.if-there-eq-NO_PLACE.false c.byte.ensures.0 c.has_id.ensures c.if-has_id.true
-
-pub loop-place-preserved : goal.loop-place-preserved
-loop-place-preserved c = differ_again c.loop-place.invariant c.three-there.ensures.0 c.if-there-eq-NO_PLACE.false c.byte.ensures.0 c.has_id.ensures c.if-has_id.false
-
-pub loop-place-init : goal.loop-place-init
-loop-place-init c = differ_begin
-
-pub returns-then-there-eq-NO_PLACE : goal.returns-then-there-eq-NO_PLACE
-returns-then-there-eq-NO_PLACE c = differ_end c.loop-place.invariant c.three-there.ensures.0 c.if-there-eq-NO_PLACE.true
+returns-then-has_id c = differ_stop c.loop-there.behind c.next.new.self c.loop-there.invariant c.in-Some.ensures.steps c.byte.ensures.0 c.has_id.ensures c.if-has_id.true
 
 pub returns : goal.returns
-returns c = differ_out c.loop-place.invariant c.loop-place-test.false
+returns c = differ_end c.loop-there.behind c.next.new.self c.loop-there.invariant c.in_default.ensures.steps

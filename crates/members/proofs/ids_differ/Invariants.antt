@@ -1,11 +1,12 @@
 -- `ids_differ`: of each child, whether one behind it has its id.
+use mathlib.Core.Path.{◌≡◌}
 use Prim.Native.Nat.{◌-◌}
 use lib.ListN.{length}
 use Rattle.members.proofs.Searching.{Differing}
 use Rattle.members.proofs.ids_differ.Given as goal
 
-abbrev pub invariant-loop-place : goal.invariant-loop-place
-invariant-loop-place l = Differing l.s l.w l.row l.place
+abbrev pub invariant-loop-there : goal.invariant-loop-there
+invariant-loop-there l = (l.behind.w.now ≡ l.w) × Differing l.s l.w l.row l.behind.at
 
-abbrev pub decreases-loop-place : goal.decreases-loop-place
-decreases-loop-place l = length l.w - l.place
+abbrev pub decreases-loop-there : goal.decreases-loop-there
+decreases-loop-there l = length l.w - l.behind.at

@@ -1,18 +1,15 @@
--- `find_key`: one pair after the other, up to the first that is not below the key.
-use Rattle.metadata.proofs.Finding.{find_begin, find_out, find_end, find_here, find_again}
+-- `find_key`: behind so many as are below the key.
+use Rattle.std.proofs.Common.{rules}
+use Rattle.std.proofs.lemmas.Iterator.Consumers.{YieldsList-at}
+use Rattle.table.proofs.Given.{row_gives}
+use Rattle.table.proofs.TakingWhile.{front_counted}
+use Rattle.metadata.proofs.Texts.{KeyBelow}
+use Rattle.metadata.proofs.Finding.{find_counted}
 use Rattle.metadata.proofs.find_key.Goals as goal
 
-pub loop-place-preserved : goal.loop-place-preserved
-loop-place-preserved c = find_again _ _ c.loop-place.invariant c.three-there.ensures.0 c.key_below.ensures c.if-there-eq-NO_PLACE.false c.if-not-key_below.false
-
-pub loop-place-init : goal.loop-place-init
-loop-place-init c = find_begin _ _
-
-pub returns-then-there-eq-NO_PLACE : goal.returns-then-there-eq-NO_PLACE
-returns-then-there-eq-NO_PLACE c = find_end _ _ c.loop-place.invariant c.three-there.ensures.0 c.if-there-eq-NO_PLACE.true
-
-pub returns-then-not-key_below : goal.returns-then-not-key_below
-returns-then-not-key_below c = find_here _ _ c.loop-place.invariant c.three-there.ensures.0 c.key_below.ensures c.if-not-key_below.true
-
 pub returns : goal.returns
-returns c = find_out _ _ c.loop-place.invariant c.loop-place-test.false
+returns c =
+    let t = c.take_while.ensures in
+    find_counted c.count.result λ ps g st.
+    front_counted _ _ (λ p b. KeyBelow c.args.s.now p c.args.q b) (λ x b h k. search rules) c.count.ensures.ran t.closure t.done
+    (YieldsList-at t.source (row_gives ps c.new.ensures g st))

@@ -3,4 +3,4 @@ use Rattle.metadata.proofs.Opening.{marked}
 use Rattle.metadata.proofs.mark_opened.Goals as goal
 
 pub returns : goal.returns
-returns c = marked c.overwrite.ensures c.ahead.ensures c.insert_place.ensures
+returns c = marked c.set_byte.ensures c.ahead.ensures c.insert_place.ensures

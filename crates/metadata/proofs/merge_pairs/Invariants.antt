@@ -1,9 +1,8 @@
 -- `merge_pairs`: one pair after the other, up to a clash.
+use Prim.Native.Nat.{◌-◌}
+use Rattle.buffer.specs.Refusals.{number_of}
 use Rattle.metadata.proofs.Pouring.{Pouring}
 use Rattle.metadata.proofs.merge_pairs.Given as goal
 
-abbrev pub invariant-loop-left : goal.invariant-loop-left
-invariant-loop-left l = Pouring l.s l.initial.w l.w l.used l.at l.q l.count l.number l.from l.end l.place l.left
-
-abbrev pub decreases-loop-left : goal.decreases-loop-left
-decreases-loop-left l = l.left
+abbrev pub invariant-loop : goal.invariant-loop
+invariant-loop l = Pouring l.s l.initial.w l.w l.used l.at l.fn.pairs.at l.fn.pairs.count (number_of l.clash) l.from l.end-2 l.place (l.end - l.counter)

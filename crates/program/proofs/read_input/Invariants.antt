@@ -1,9 +1,11 @@
--- `read_input`: what was read lies in the buffer, and each turn leaves less room.
-use Rattle.std.proofs.Common.{◌-◌, ◌≤◌, length}
+-- `read_input`: what was read lies at the buffer's start, and each turn leaves less room.
+use Rattle.std.proofs.Common.{◌≡◌, ◌-◌, ◌≤◌, length, take}
+use Rattle.std.specs.Io.KnownBytes.{Consumes}
 use Rattle.program.proofs.read_input.Given as goal
 
 abbrev pub invariant-loop-end : goal.invariant-loop-end
-invariant-loop-end g l = l.end ≤ length l.buf
+invariant-loop-end g l =
+    (length l.buf ≡ length l.initial.buf) × (l.end ≤ length l.buf) × Consumes (g.R.Read.remaining l.initial.reader) (g.R.Read.remaining l.reader) (take l.end l.buf)
 
 abbrev pub decreases-loop-end : goal.decreases-loop-end
 decreases-loop-end g l = length l.initial.buf - l.end

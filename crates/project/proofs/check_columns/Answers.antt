@@ -1,5 +1,4 @@
 -- `check_columns`: the table, then the verdict.
-use native.Mathlib.Omega.{arith}
 use Rattle.project.proofs.Ends.{table_fits, table_checked}
 use Rattle.project.proofs.check_columns.Goals as goal
 
@@ -9,6 +8,3 @@ returns c =
 
 pub returns-then-work-count : goal.returns-then-work-count
 returns-then-work-count c = λ x fits e room. absurd (table_fits c.find_columns-columns.ensures x e _ room c.if-work-count.true)
-
-pub check_behind-requires : goal.check_behind-requires
-check_behind-requires c = omega (arith, c.work-1.given)

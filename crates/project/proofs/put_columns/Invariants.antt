@@ -1,11 +1,6 @@
 -- `put_columns`: the columns of the entries passed are put.
-use Prim.Native.Nat.{◌-◌, ◌/◌}
-use lib.ListN.{length}
 use Rattle.project.proofs.Putting.{Putting}
 use Rattle.project.proofs.put_columns.Given as goal
 
 abbrev pub invariant-loop-e : goal.invariant-loop-e
 invariant-loop-e l = Putting l.s l.table l.list l.initial.dst l.pos l.dst l.written l.e
-
-abbrev pub decreases-loop-e : goal.decreases-loop-e
-decreases-loop-e l = length l.list / 2 - l.e

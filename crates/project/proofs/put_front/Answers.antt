@@ -1,6 +1,9 @@
 -- `put_front`: the map, then the metadata that stands behind the sheet's own.
-use Rattle.project.proofs.Putting.{front_put}
+use native.Mathlib.Omega.{arith}
+use Rattle.project.proofs.Putting.{bits_added, front_put}
 use Rattle.project.proofs.put_front.Goals as goal
 
 pub returns : goal.returns
-returns c = front_put c.skip_metadata_if-end.ensures c.put_one-metadata.ensures c.put_part.ensures
+returns c =
+    let metadata = c.skip_if-end.ensures in
+    front_put _ c.byte.ensures.0 c.bit-metadata.ensures metadata.set metadata.unset (omega (arith, bits_added c.bit-metadata.result c.args.columns)) c.put_one-place.ensures c.put_part.ensures

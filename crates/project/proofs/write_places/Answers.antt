@@ -1,5 +1,4 @@
 -- `write_places`: the places of the columns passed stand in the table.
-use native.Mathlib.Omega.{arith}
 use Rattle.project.proofs.Places.{placing_begin, placing_again, placing_done}
 use Rattle.project.proofs.write_places.Goals as goal
 
@@ -9,12 +8,6 @@ loop-i-preserved c =
 
 pub loop-i-init : goal.loop-i-init
 loop-i-init c = placing_begin _ _ _ c.args.work.now c.requires c.put_place.ensures
-
-pub put_place-requires-in-loop-i : goal.put_place-requires-in-loop-i
-put_place-requires-in-loop-i c = let l = c.loop-i in omega (arith, l.invariant.size, l.invariant.room)
-
-pub shape_of-work : goal.shape_of-work
-shape_of-work c = omega (arith, c.loop-i.invariant.size)
 
 pub returns : goal.returns
 returns c = placing_done c.loop-i.invariant c.loop-i-test.false

@@ -1,7 +1,7 @@
 -- Fields, types and their children. The levels left fall from a type to its children, and each function calls on one that stands before it at equal levels.
 use mathlib.Core.Path.{refl}
 use Rattle.schema.proofs.Writing.{turns_begin, turns_again, turns_done}
-use Rattle.schema.proofs.Walked.{field_walked, no_level, type_walked, field_behind, dictionary_walked, runs_walked, struct_walked, union_walked, others_walked}
+use Rattle.schema.proofs.Walked.{field_walked, type_walked, field_behind, dictionary_walked, runs_walked, struct_walked, union_walked, others_walked}
 use borrow.Author.Rules.{rules}
 use Rattle.schema.proofs.+flattening.Goals as goal
 
@@ -34,9 +34,6 @@ flatten_fields-loop-preserved t c = (
 
 pub flatten_fields-returns : goal.flatten_fields-returns
 flatten_fields-returns t c = λ l front one ks n o h e w. turns_done _ _ _ _ (c.loop.invariant.1 l front one n o h) c.loop-test.false ks e w
-
-pub flatten_type-returns-then-levels-eq0 : goal.flatten_type-returns-then-levels-eq0
-flatten_type-returns-then-levels-eq0 t c = no_level _ c.if-levels-eq0.true
 
 pub flatten_type-returns : goal.flatten_type-returns
 flatten_type-returns t c = type_walked _ c.byte-code.ensures.0 c.ahead-params.ensures c.skip_params-children.ensures c.flatten_children.ensures

@@ -1,10 +1,7 @@
 -- `find_name`: none of the columns passed has the name.
 use mathlib.Core.Path.{refl}
-use Rattle.schema.proofs.Names.{searched_begin, searched_again, searched_found, searched_done}
+use Rattle.schema.proofs.Names.{searched_again, searched_found, searched_done}
 use Rattle.schema.proofs.find_name.Goals as goal
-
-pub loop-i-init : goal.loop-i-init
-loop-i-init c = searched_begin _ _ _ _
 
 pub returns-then-has_name : goal.returns-then-has_name
 returns-then-has_name c = searched_found _ _ c.loop-i.invariant c.loop-i-test.true c.has_name.ensures c.if-has_name.true refl

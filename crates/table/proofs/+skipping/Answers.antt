@@ -1,6 +1,7 @@
 -- Entries, types and rows. The levels left fall from a type to what it holds, and each function calls on one that stands before it at equal levels.
 use native.Mathlib.Omega.{arith}
 use Rattle.table.proofs.Entries.{entry_skips, no_level, types_raw, types_struct, types_list, types_union, entries_begin, entries_again, entries_done, entries_stuck, entries_none}
+use Rattle.table.proofs.OfKinds.{is_raw, is_struct, is_list, is_union}
 use Rattle.table.proofs.+skipping.Goals as goal
 
 pub skip_entry-returns : goal.skip_entry-returns
@@ -27,14 +28,14 @@ skip_row-returns t c = entries_none _ c.loop-place.invariant c.loop-place-test.f
 pub skip_type-returns-then-levels-le0 : goal.skip_type-returns-then-levels-le0
 skip_type-returns-then-levels-le0 t c = no_level _ _ c.if-levels-le0.true
 
-pub skip_type-returns-then-kind-eq0 : goal.skip_type-returns-then-kind-eq0
-skip_type-returns-then-kind-eq0 t c = types_raw _ c.byte-kind.ensures.0 c.ahead-inner.ensures c.if-kind-eq0.true
+pub skip_type-returns-in-Raw : goal.skip_type-returns-in-Raw
+skip_type-returns-in-Raw t c = types_raw _ c.ahead-inner.ensures (is_raw c.kind_at.ensures c.in-Raw.is)
 
-pub skip_type-returns-then-kind-eq1 : goal.skip_type-returns-then-kind-eq1
-skip_type-returns-then-kind-eq1 t c = types_struct _ c.byte-kind.ensures.0 c.ahead-inner.ensures c.if-kind-eq1.true c.skip_row.ensures
+pub skip_type-returns-in-OpenStruct : goal.skip_type-returns-in-OpenStruct
+skip_type-returns-in-OpenStruct t c = types_struct _ c.ahead-inner.ensures (is_struct c.kind_at.ensures c.in-OpenStruct.is) c.skip_row.ensures
 
-pub skip_type-returns-then-kind-eq2 : goal.skip_type-returns-then-kind-eq2
-skip_type-returns-then-kind-eq2 t c = types_list _ c.byte-kind.ensures.0 c.ahead-inner.ensures c.if-kind-eq2.true c.skip_entry.ensures
+pub skip_type-returns-in-OpenList : goal.skip_type-returns-in-OpenList
+skip_type-returns-in-OpenList t c = types_list _ c.ahead-inner.ensures (is_list c.kind_at.ensures c.in-OpenList.is) c.skip_entry.ensures
 
-pub skip_type-returns : goal.skip_type-returns
-skip_type-returns t c = types_union _ c.byte-kind.ensures.0 c.ahead-inner.ensures c.if-kind-eq0.false c.if-kind-eq1.false c.if-kind-eq2.false c.skip_places.ensures
+pub skip_type-returns-in-OpenUnion : goal.skip_type-returns-in-OpenUnion
+skip_type-returns-in-OpenUnion t c = types_union _ c.ahead-inner.ensures (is_union c.kind_at.ensures c.in-OpenUnion.is) c.skip_places.ensures

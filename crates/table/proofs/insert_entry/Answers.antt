@@ -5,6 +5,4 @@ use Rattle.table.proofs.insert_entry.Goals as goal
 pub returns : goal.returns
 returns c =
     let i = c.insert.ensures in
-    let b = c.byte.ensures.0 in
-    let k = c.skip_head-t.ensures in
-    (i.0, λ l g x z n h e room. entry_inserted b k c.low.ensures c.low-2.ensures c.low-3.ensures c.low-4.ensures c.low-5.ensures c.low-6.ensures c.low-7.ensures l g n (i.1 x z h e room).1)
+    (i.0, λ l g x z n h e room. entry_inserted c.byte.ensures.0 c.skip_head.ensures c.place_bytes.ensures c.place_bytes-2.ensures l g n (i.1 x z h e room).1)

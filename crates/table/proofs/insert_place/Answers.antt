@@ -4,4 +4,4 @@ use Rattle.table.proofs.insert_place.Goals as goal
 
 pub returns : goal.returns
 unfolding u24
-returns c = let k = c.insert.ensures in record { same_length = k.0; inserts = k.1 }
+returns c = let k = rw c.place_bytes.ensures at c.insert.ensures in record { same_length = k.0; inserts = k.1 }

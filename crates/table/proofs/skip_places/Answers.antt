@@ -1,15 +1,9 @@
--- `skip_places`: up to the mark, one place after the other.
-use Rattle.table.proofs.Entries.{places_begin, places_again, places_done, places_none}
+-- `skip_places`: so many places, and the mark.
+use native.Mathlib.Omega.{arith}
+use Rattle.std.proofs.lemmas.Iterator.Consumers.{count_from_yields_List}
+use Rattle.table.proofs.Given.{row_gives}
+use Rattle.table.proofs.Places.{length_places}
 use Rattle.table.proofs.skip_places.Goals as goal
 
-pub loop-place-init : goal.loop-place-init
-loop-place-init c = places_begin _
-
-pub returns-then-three-eq-NO_PLACE : goal.returns-then-three-eq-NO_PLACE
-returns-then-three-eq-NO_PLACE c = places_done c.loop-place.invariant c.three.ensures.0 c.if-three-eq-NO_PLACE.true c.ahead.ensures
-
-pub loop-place-preserved : goal.loop-place-preserved
-loop-place-preserved c = places_again c.loop-place.invariant c.three.ensures.0 c.if-three-eq-NO_PLACE.false c.loop-place-test.true
-
 pub returns : goal.returns
-returns c = places_none c.loop-place.invariant c.loop-place-test.false
+returns c = λ ps g. record { behind = λ st. omega (arith, c.ahead.ensures, st.inside, length_places ps, count_from_yields_List _ _ c.count-count.ensures.ran (row_gives ps c.new.ensures g st)) }

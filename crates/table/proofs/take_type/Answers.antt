@@ -3,4 +3,4 @@ use Rattle.table.proofs.Types.{four}
 use Rattle.table.proofs.take_type.Goals as goal
 
 pub returns : goal.returns
-returns c = let o = c.overwrite.ensures in (o.0, λ x y z h e n. four _ c.low.ensures c.low-2.ensures c.low-3.ensures (o.1 x y z h e n))
+returns c = let o = c.overwrite.ensures in (o.0, λ x y z h e n. four _ c.place_bytes.ensures (o.1 x y z h e n))

@@ -1,17 +1,13 @@
--- `is_ascii`: the largest byte so far, and what follows, say what the whole says.
-use native.Mathlib.Omega.{arith}
-use mathlib.Core.Path.{sym, ◌∙◌}
-use Rattle.text.proofs.Utf8.{ascii_next, ascii_end}
+-- `is_ascii`: the largest byte says it of all.
+use mathlib.Core.Path.{◌≡◌, ap, ◌∙◌}
+use Prim.Native.Nat.{max}
+use Rattle.std.proofs.Common.{rules}
+use Rattle.std.specs.List.{fold}
+use Rattle.text.specs.Text.{ascii}
+use Rattle.text.proofs.Utf8.{ascii_largest}
 use Rattle.text.proofs.is_ascii.Goals as goal
-
-pub loop-i-preserved : goal.loop-i-preserved
-loop-i-preserved c =
-    let p = c.args.p.now in
-    let l = c.loop-i in
-    rw c.larger-largest.ensures (ascii_next p l.i l.largest (omega arith) ∙ l.invariant)
 
 pub returns : goal.returns
 returns c =
-    let p = c.args.p.now in
-    let l = c.loop-i in
-    sym (ascii_end p l.i l.largest (omega arith)) ∙ l.invariant
+    let e : c.fold.result ≡ fold (λ m b. max m b) 0 c.args.p.now = search rules in
+    ap ascii e ∙ ascii_largest c.args.p.now 0

@@ -1,5 +1,4 @@
 -- `same`: what follows is equal just if the whole is; the last eight bytes are.
-use Prim.Native.Nat.{◌-◌}
 use mathlib.Core.Path.{◌≡◌}
 use lib.ListN.{length, drop}
 use Rattle.model.specs.Bytes.{same_bytes}
@@ -7,6 +6,3 @@ use Rattle.text.proofs.same.Given as goal
 
 abbrev pub invariant-loop-i : goal.invariant-loop-i
 invariant-loop-i l = (length l.a ≡ length l.b) × (drop l.last l.a ≡ drop l.last l.b) × (same_bytes (drop l.i l.a) (drop l.i l.b) ≡ same_bytes l.a l.b)
-
-abbrev pub decreases-loop-i : goal.decreases-loop-i
-decreases-loop-i l = l.last - l.i

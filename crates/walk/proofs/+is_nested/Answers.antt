@@ -1,9 +1,6 @@
 -- `is_nested`: the levels left are the measure.
-use Rattle.walk.proofs.Nested.{none_nested, plain_nested, dictionary_nested, runs_nested}
+use Rattle.walk.proofs.Nested.{plain_nested, dictionary_nested, runs_nested}
 use Rattle.walk.proofs.+is_nested.Goals as goal
-
-pub returns-then-levels-eq0 : goal.returns-then-levels-eq0
-returns-then-levels-eq0 t c = none_nested _ _ c.if-levels-eq0.true
 
 pub returns-then-code-eq-DICTIONARY : goal.returns-then-code-eq-DICTIONARY
 returns-then-code-eq-DICTIONARY t c = dictionary_nested _ c.byte-code.ensures.0 c.ahead-first.ensures c.if-code-eq-DICTIONARY.true c.skip_type.ensures c.is_nested.ensures

@@ -1,8 +1,8 @@
 -- Fields, types and their children. The levels left fall from a type to its children, and each function calls on one that stands before it at equal levels.
 use Rattle.model.specs.Sheet.{field_bytes}
 use Rattle.walk.proofs.Standing.{skip_ahead, skip_join}
-use Rattle.walk.proofs.Turns.{turns_begin, turns_again, turns_done}
-use Rattle.walk.proofs.Trees.{type_skips, plain_skips, no_level, kids_fields, kids_types, kids_counted, kids_members}
+use Rattle.walk.proofs.Turns.{turns_again, turns_done}
+use Rattle.walk.proofs.Trees.{type_skips, plain_skips, kids_fields, kids_types, kids_counted, kids_members}
 use Rattle.walk.proofs.+skipping.Goals as goal
 
 pub skip_children-returns-in-Fields : goal.skip_children-returns-in-Fields
@@ -25,17 +25,11 @@ pub skip_field-returns : goal.skip_field-returns
 unfolding field_bytes
 skip_field-returns t c = λ l f h w. skip_join (c.skip_head-data_type.ensures f.head) (c.skip_type.ensures l f.data_type h w)
 
-pub skip_fields-loop-init : goal.skip_fields-loop-init
-skip_fields-loop-init t c = λ l front n h. turns_begin _ _ _ _ _
-
 pub skip_fields-loop-preserved : goal.skip_fields-loop-preserved
 skip_fields-loop-preserved t c = λ l front n h. turns_again _ _ _ (c.loop.invariant l front n h) c.loop-test.true (λ f w. skip_join (skip_ahead (front f.head) (n f.head) c.ahead-field.ensures.1) (c.skip_field-place.ensures l f h w))
 
 pub skip_fields-returns : goal.skip_fields-returns
 skip_fields-returns t c = λ l front ks n h e w. turns_done _ _ _ (c.loop.invariant l front n h) c.loop-test.false ks e w
-
-pub skip_type-returns-then-levels-eq0 : goal.skip_type-returns-then-levels-eq0
-skip_type-returns-then-levels-eq0 t c = no_level _ _ c.if-levels-eq0.true
 
 pub skip_type-returns-then-is_plain : goal.skip_type-returns-then-is_plain
 skip_type-returns-then-is_plain t c = plain_skips _ c.byte-code.ensures.0 (c.is_plain.ensures.0 c.if-is_plain.true) c.ahead-params.ensures

@@ -2,11 +2,8 @@
 use Rattle.model.specs.Sheet.{pair_bytes}
 use Rattle.model.proofs.Lists.{every_unit}
 use Rattle.walk.proofs.Standing.{skip_join}
-use Rattle.walk.proofs.Turns.{turns_begin, turns_again, turns_done}
+use Rattle.walk.proofs.Turns.{turns_again, turns_done}
 use Rattle.walk.proofs.skip_pairs.Goals as goal
-
-pub loop-init : goal.loop-init
-loop-init c = turns_begin _ _ _ _ _
 
 pub loop-preserved : goal.loop-preserved
 unfolding pair_bytes

@@ -1,5 +1,6 @@
--- `next_bytes`: the loop ends, since fewer pieces are left.
+-- `next_bytes`: the pieces so far lie in the buffer.
+use Rattle.std.proofs.Common.{◌≤◌, length}
 use Rattle.replay.proofs.list.next_bytes.Given as goal
 
-abbrev pub decreases-loop-pieces : goal.decreases-loop-pieces
-decreases-loop-pieces g l = l.pieces
+abbrev pub invariant-loop : goal.invariant-loop
+invariant-loop g l = l.filled ≤ length l.space

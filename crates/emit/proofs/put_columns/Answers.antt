@@ -1,9 +1,0 @@
--- `put_columns`: the count and the fields, if there are any.
-use Rattle.emit.proofs.Sheets.{columns_put, no_columns}
-use Rattle.emit.proofs.put_columns.Goals as goal
-
-pub returns-then-has_entries : goal.returns-then-has_entries
-returns-then-has_entries c = columns_put c.has_entries.ensures c.if-has_entries.true c.put_row.ensures
-
-pub returns : goal.returns
-returns c = no_columns c.has_entries.ensures c.if-has_entries.false

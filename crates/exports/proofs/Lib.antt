@@ -1,2 +1,0 @@
--- What the proofs of all exports use.
-pub mod Telling

@@ -1,9 +1,0 @@
--- `hex_digit`: 0 to 9, then a to f.
-use Rattle.line.proofs.Lines.{digit_low, digit_high}
-use Rattle.line.proofs.hex_digit.Goals as goal
-
-pub returns-then-d-lt10 : goal.returns-then-d-lt10
-returns-then-d-lt10 c = digit_low _ c.if-d-lt10.true
-
-pub returns : goal.returns
-returns c = digit_high _ c.if-d-lt10.false

@@ -1,0 +1,8 @@
+-- `put_column`: the head, then the type.
+use native.Mathlib.Omega.{arith}
+use Rattle.normalize.proofs.Fields.{column_expanded}
+use Rattle.normalize.proofs.Expansion.put_column.Goals as goal
+
+pub returns : goal.returns
+returns c =
+    column_expanded _ c.skip_head-data_type.ensures c.skip_type-end.ensures c.put_head-headed.ensures c.put_part.ensures (λ h. omega (arith, h, c.saturating_add.ensures))

@@ -1,7 +1,0 @@
--- `put_column`: the head, then the type.
-use Rattle.normalize.proofs.Fields.{column_expanded}
-use Rattle.normalize.proofs.put_column.Goals as goal
-
-pub returns : goal.returns
-returns c =
-    column_expanded _ c.skip_head-data_type.ensures c.skip_type-end.ensures c.put_head-headed.ensures c.put_part-written.ensures c.one_more.ensures

@@ -1,9 +1,0 @@
--- `put_normalized`: the map alone, or the map, the count and the columns.
-use Rattle.normalize.proofs.Sheets.{none_put, some_put}
-use Rattle.normalize.proofs.put_normalized.Goals as goal
-
-pub returns-then-count-eq0 : goal.returns-then-count-eq0
-returns-then-count-eq0 c x fits e n = none_put _ c.if-count-eq0.true n c.put_one.ensures
-
-pub returns : goal.returns
-returns c x fits e n = some_put _ c.if-count-eq0.false n c.put_one-counted.ensures c.put_two-first.ensures (c.put_columns-reach.ensures x fits e)

@@ -1,9 +1,0 @@
--- `put_own_name`: the name, or nothing where its bit is clear.
-use Rattle.normalize.proofs.Names.{own_named, own_unnamed}
-use Rattle.normalize.proofs.put_own_name.Goals as goal
-
-pub returns-then-byte-eq1 : goal.returns-then-byte-eq1
-returns-then-byte-eq1 c = own_named c.byte.ensures.0 c.if-byte-eq1.true c.ahead-text.ensures c.ahead-body.ensures c.skip_text-end.ensures c.put_part.ensures
-
-pub returns : goal.returns
-returns c = own_unnamed c.byte.ensures.0 c.if-byte-eq1.false

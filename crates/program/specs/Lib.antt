@@ -1,2 +1,0 @@
--- The definitions that the contracts of `program` cite.
-pub mod Input

@@ -1,6 +1,0 @@
--- `begins`: the loop ends, since i grows.
-use Rattle.std.proofs.Common.{length, ◌-◌}
-use Rattle.replay.proofs.lent.begins.Given as goal
-
-abbrev pub decreases-loop-i : goal.decreases-loop-i
-decreases-loop-i l = length l.given - l.i
