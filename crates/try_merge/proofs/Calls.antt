@@ -54,7 +54,7 @@ module _ (parked : Bool) where
         let t = step_no (try_merge parked xs) (m.merges xs i f k one room).0 (told_err h) in
         ap (λ w. leaves r answer w) cleared ∙ leaves_refusal x (zeros (length w₀)) answer e ∙ sym (ap (λ o. settled (sheet_answer o) (zeros (length w₀)) answer) t)
 
-    module _ {count : ℕ} (h : merged ≡ Ok count) {none none' : Bytes} {n : ℕ} {f : Result Unit Refusal} (measured : Writes s w none none' n) (tested : numbered f ≡ unless_refused (length_number n (length answer))) where
+    module _ {count : ℕ} (h : merged ≡ Ok count) where
       ends : (r : Result ℕ Refusal) (answer' : Bytes)
           → ((x : Schema) (k : ℕ) (y : Bytes) → SpellSchema s k y x → Stands w 0 y → leaves r answer' (zeros (length w₀)) ≡ acceptance (sheet_bytes x) (zeros (length w₀)) answer) → Ends r answer'
       unfolding settled sheet_answer and_then
@@ -64,10 +64,11 @@ module _ (parked : Bool) where
           let sp = all.1 x count t in
           ap (λ w. leaves r answer' w) cleared ∙ by x sp.room sp.spelt sp.spells sp.stands ∙ sym (ap (λ o. settled (sheet_answer o) (zeros (length w₀)) answer) t)
 
-      -- 30 and 31
-      pub length_refused : {r : Result ℕ Refusal} {x : Refusal} → f ≡ Err x → r ≡ Err x → Ends r answer
-      length_refused {r} o e = ends r answer λ x k y p st. put_refused (sheet_bytes x) (measured x k y p st) (zeros (length w₀)) answer tested o e
+      module _ {none none' : Bytes} {n : ℕ} {f : Result Unit Refusal} (measured : Writes s w none none' n) (tested : numbered f ≡ unless_refused (length_number n (length answer))) where
+        -- 30 and 31
+        pub length_refused : {r : Result ℕ Refusal} {x : Refusal} → f ≡ Err x → r ≡ Err x → Ends r answer
+        length_refused {r} o e = ends r answer λ x k y p st. put_refused (sheet_bytes x) (measured x k y p st) (zeros (length w₀)) answer tested o e
 
-      pub length_accepted : {r : Result ℕ Refusal} {answer' : Bytes} {q : ℕ} → f ≡ Ok tt → Writes s w answer answer' q → r ≡ Ok n → Ends r answer'
-      length_accepted {r} {answer'} o written e =
-          ends r answer' λ x k y p st. put_accepted (sheet_bytes x) (measured x k y p st) (zeros (length w₀)) answer tested o (written x k y p st) e
+        pub length_accepted : {r : Result ℕ Refusal} {answer' : Bytes} {q : ℕ} → f ≡ Ok tt → Writes s w answer answer' q → r ≡ Ok n → Ends r answer'
+        length_accepted {r} {answer'} o written e =
+            ends r answer' λ x k y p st. put_accepted (sheet_bytes x) (measured x k y p st) (zeros (length w₀)) answer tested o (written x k y p st) e

@@ -11,6 +11,7 @@ use Rattle.model.specs.Sheet.{each, part, with_count, pair_bytes, column_bytes, 
 use Rattle.model.specs.WellFormed.{WellFormedColumn, WellFormedSchema}
 use Rattle.model.specs.Merge.{◌>>=◌, done, merge_metadata, merge_schema, merge_by_name, merge_column, pour}
 use Rattle.model.proofs.WellFormed.{each_every}
+use Rattle.buffer.specs.declared.refusal.Number.{Number}
 use Rattle.walk.specs.Stands.{Stands, Skips, ColumnsAt}
 use Rattle.datatype.specs.Comparisons.{PairsAt}
 use Rattle.table.specs.Held.{Held}
@@ -64,7 +65,7 @@ module _ (parked : Bool) where
         (omega (arith, room, e.room, columns_fit a e.columns, length-append e.columns_bytes z))
 
     -- 25
-    pub sheet_stopped : {n : ℕ} → got ≡ Err n → MergesSheet parked s w used q w₁ got
+    pub sheet_stopped : {n : Number} → got ≡ Err n → MergesSheet parked s w used q w₁ got
     unfolding merge_schema ◌>>=◌
     sheet_stopped {n} c = record {
       same_length = m.same_length;

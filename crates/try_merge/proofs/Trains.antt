@@ -18,10 +18,10 @@ use Rattle.model.proofs.WellFormed.{columns_laid_out}
 use Rattle.walk.specs.Stands.{Stands, SkipsSheet}
 use Rattle.walk.proofs.Standing.{whole_stands, first_stands, second_stands}
 use Rattle.sheet.specs.Answers.{step_of}
-use Rattle.std.specs.Prelude.{Result, Ok, Err}
+use Rattle.std.specs.Prelude.{Result, Ok, Err, MatchResult}
 use Rattle.buffer.specs.declared.refusal.Number.{Number}
 use Rattle.buffer.specs.declared.refusal.Refusal.{Refusal}
-use Rattle.buffer.specs.Refusals.{number_of, numbered}
+use Rattle.buffer.specs.Refusals.{number_of}
 use Rattle.table.specs.Held.{Held}
 use Rattle.table.specs.Table.{no_place, no_entry, u24, none, SpellSchema}
 use Rattle.table.specs.Says.{Says}
@@ -139,11 +139,11 @@ module _ (parked : Bool) where
       merges = λ xs e f n one room. let o = m.so xs e f n one room in ended xs o (none_left_lem o.left (omega (arith, h, o.ends)));
     }
 
-    pub merging_full : max_sheets ≤ sheet → MergesSheets parked s w₀ w (Ok sheet)
-    merging_full h = record {
+    pub merging_full : {end : ℕ} → max_sheets ≤ sheet → sheet ≡ end → MergesSheets parked s w₀ w (Ok end)
+    merging_full h same = subst (λ n. MergesSheets parked s w₀ w (Ok n)) same (record {
       same_length = m.same;
       merges = λ xs e f n one room. let o = m.so xs e f n one room in ended xs o (empty_list o.left (omega (arith, h, n, o.counted)));
-    }
+    })
 
     -- one sheet more
     module _ (before : place < length s) {w₁ : Bytes} {r : table.Merged} (g : MergesSheet parked s w used place w₁ r) where
@@ -214,3 +214,14 @@ module _ (parked : Bool) where
   -- of a work buffer, nothing but its length is told before
   pub merges_since : {s w₀ w₁ w : Bytes} {r : Result ℕ Refusal} → length w₁ ≡ length w₀ → MergesSheets parked s w₁ w r → MergesSheets parked s w₀ w r
   merges_since e m = record { same_length = m.same_length ∙ e; merges = λ xs i f k one room. m.merges xs i f k one (omega (arith, e, room)) }
+
+-- a value that `map_err` passed on, and an error that it gave
+module _ {A E : Type 0} where
+  pub mapped_ok : (F : Type 0) (m : Result A E) (x : A) {P : E → Type 0} → MatchResult m (λ v. ◌≡◌ {A = Result A F} (Ok x) (Ok v)) P → ((e : E) → P e → ⊥) → m ≡ Ok x
+  mapped_ok F (Ok v) x m never = cc
+  mapped_ok F (Err e) x m never = absurd (never e m)
+
+  pub mapped_err : {F : Type 0} (f : E → F) (m : Result A E) (y : F) {P : E → Type 0} → MatchResult m (λ v. ◌≡◌ {A = Result A F} (Err y) (Ok v)) P → ((e : E) → P e → y ≡ f e)
+      → (e : E) × (m ≡ Err e) × (y ≡ f e)
+  mapped_err f (Ok v) y m by = cc
+  mapped_err f (Err e) y m by = (e, refl, by e m)

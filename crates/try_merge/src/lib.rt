@@ -18,7 +18,7 @@ use datatype::metadata::of_sheet;
 use sheet::Cursor;
 
 // The table of `Schema::empty`: the end of a row of places, and the end of a row of entries.
-const EMPTY: [u8; 4] = [255, 255, 255, 255];
+const EMPTY: [u8; 4] = [255; 4];
 
 // Makes the table of the empty schema, of four bytes: a train of one byte has room for it.
 fn begin_table(w: &mut [u8])
@@ -28,13 +28,7 @@ fn begin_table(w: &mut [u8])
 }
 
 // One sheet of the train into the table: "per sheet, its metadata by ascending key, then its columns in order".
-fn merge_sheet(
-    s: &[u8],
-    w: &mut [u8],
-    used: usize,
-    q: usize,
-    parked: bool,
-) -> Result<usize, Number>
+fn merge_sheet(s: &[u8], w: &mut [u8], used: usize, q: usize, parked: bool) -> Result<usize, Number>
     ensures { MergesSheet parked s.now w.old used q w.new result }
 {
     let pairs = of_sheet(s, q);
@@ -59,10 +53,7 @@ fn merge_sheets(s: &[u8], w: &mut [u8], parked: bool) -> Result<usize, Refusal>
         if s.len() <= place {
             return Ok(sheet);
         }
-        match merge_sheet(s, w, used, place, parked) {
-            Err(number) => return Err(Refusal(number, sheet)),
-            Ok(end) => used = end,
-        }
+        used = merge_sheet(s, w, used, place, parked).map_err(|number| Refusal(number, sheet))?;
         place = walk::skip_sheet(s, place);
     }
     Ok(Cursor::SHEETS)
