@@ -24,7 +24,7 @@ ghost use Rattle.datatype.specs.Answers.{match_of, TestedBy};
 ghost use Rattle.datatype.specs.Comparisons.{compare_child, compare_schema, compare_call};
 
 use buffer::Refusal;
-use compare::{Comparison, compare_field, compare_row, compare_type};
+use compare::{Comparer, Comparison};
 use layout::ChildrenKind;
 use metadata::{contains_metadata, of_sheet};
 use sheet::Cursor;
@@ -34,14 +34,24 @@ use walk::Elements;
 pub fn same_type(s: &[u8], a: usize, t: &[u8], b: usize, levels: usize) -> bool
     ensures { (l : ℕ) (x y : DataType l) → l ≤ levels → Whole l x → Whole l y → Stands s.now a (type_bytes l x) → Stands t.now b (type_bytes l y) → result ≡ same_type l x y }
 {
-    compare_type(s, a, t, b, levels, Comparison::Equal)
+    let both = Comparer {
+        own: s,
+        other: t,
+        how: Comparison::Equal,
+    };
+    both.compare_type(a, b, levels)
 }
 
 // Whether two fields are equal.
 pub fn same_field(s: &[u8], a: usize, t: &[u8], b: usize, levels: usize) -> bool
     ensures { (l : ℕ) (f g : Field l) → l ≤ levels → Whole l f.data_type → Whole l g.data_type → Stands s.now a (field_bytes (type_bytes l) f) → Stands t.now b (field_bytes (type_bytes l) g) → result ≡ same_field (same_type l) f g }
 {
-    compare_field(s, a, t, b, levels, Comparison::Equal)
+    let both = Comparer {
+        own: s,
+        other: t,
+        how: Comparison::Equal,
+    };
+    both.compare_field(a, b, levels)
 }
 
 // The position of the first of so many union children at whose place a test says yes.
@@ -86,41 +96,6 @@ pub fn find_by_field(
     })
 }
 
-// The columns of two sheets, by position.
-fn compare_columns(s: &[u8], a: usize, t: &[u8], b: usize, how: Comparison) -> bool
-    ensures { (x y : Schema) → Every (Child 32 counted) x.columns → Every (Child 32 counted) y.columns → Stands s.now a (sheet_bytes x) → Stands t.now b (sheet_bytes y) → result ≡ same (compare_child how 32) x.columns y.columns }
-{
-    let own = walk::find_columns(s, a);
-    let others = walk::find_columns(t, b);
-    if own.count != others.count {
-        return false;
-    }
-    let kind = ChildrenKind::Counted;
-    compare_row(
-        s,
-        own.at,
-        t,
-        others.at,
-        kind,
-        own.count,
-        Cursor::LEVELS,
-        how,
-    )
-}
-
-// Two sheets: "both equalities take each sheet as the Struct of its columns", `Schema::contains` compares schema metadata too.
-fn compare_sheets(s: &[u8], t: &[u8], how: Comparison) -> bool
-    ensures { (x y : Schema) → Every (Child 32 counted) x.columns → Every (Child 32 counted) y.columns → Stands s.now 0 (sheet_bytes x) → Stands t.now 0 (sheet_bytes y) → result ≡ compare_schema how x y }
-{
-    if !compare_columns(s, 0, t, 0, how) {
-        return false;
-    }
-    match how {
-        Comparison::Equal | Comparison::EqualsDatatype => true,
-        Comparison::Contains => contains_metadata(s, of_sheet(s, 0), t, of_sheet(t, 0)),
-    }
-}
-
 // The call on two sheets: 32, a sheet refused, or "one byte, 1 for yes and 0 for no".
 fn answer_comparison(
     sheet: &[u8],
@@ -134,7 +109,14 @@ fn answer_comparison(
     buffer::work_fits_two(work.len(), sheet.len(), other.len())?;
     match sheet::read_two(sheet, other) {
         Err(refusal) => buffer::refuse(work, refusal),
-        Ok(_) => buffer::accept_byte(work, answer, u8::from(compare_sheets(sheet, other, how))),
+        Ok(_) => {
+            let both = Comparer {
+                own: sheet,
+                other,
+                how,
+            };
+            buffer::accept_byte(work, answer, u8::from(both.compare_sheets()))
+        }
     }
 }
 

@@ -1,8 +1,7 @@
 -- `filter` as a call: from an accepted sheet to what stands in the buffers at the end.
 use Prim.Native.Nat.{ℕ, ◌*◌, ◌≤◌}
 use native.Mathlib.Omega.{arith}
-use mathlib.Core.Path.{◌≡◌, refl, sym, ap, ◌∙◌}
-use mathlib.Core.Bool.{Bool, true, false}
+use mathlib.Core.Path.{◌≡◌, sym, ap, ◌∙◌}
 use lib.ListN.{length, take, length-append}
 use lib.Seq.{take_at}
 use lib.Dec.{ltb}

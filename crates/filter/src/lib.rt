@@ -62,8 +62,8 @@ impl Sieve<'_> {
         }
     }
 
-    // "Mask byte i keeps leaf i unless 0." A field that is a leaf stands between the two places. Behind the mask's end nothing is kept. A sheet
-    // has fewer leaves than bytes, so their number never stops at the largest.
+    // "Mask byte i keeps leaf i unless 0." A field that is a leaf stands between the two places. Behind the mask's end nothing is kept. A
+    // sheet has fewer leaves than bytes, so their number never stops at the largest.
     fn filter_leaf(&self, from: Reach, end: usize, w: &mut [u8]) -> Reach
         ensures { FiltersLeaf self.now.sheet.now from.at end self.now.mask.now from.leaf w.old from.written w.new result }
     {
@@ -93,9 +93,9 @@ impl Sieve<'_> {
         }
     }
 
-    // `filter_field`, its matches on the type, of at most so many levels: how far it was gone over, and what was kept of it written; or None,
-    // where it has no leaf below it, so that its field is one itself. "One Dictionary or RunEndEncoded is looked through, not two": `through`
-    // says that none was yet.
+    // `filter_field`, its matches on the type, of at most so many levels: how far it was gone over, what was kept of it being written; or
+    // None, where it has no leaf below it, so that its field is one itself. "One Dictionary or RunEndEncoded is looked through, not two":
+    // `through` says that none was yet.
     #[cycle(filtering)]
     fn filter_type(&self, from: Reach, levels: usize, through: bool, w: &mut [u8]) -> Option<Reach>
         ensures { FiltersType self.now.sheet.now from.at levels through self.now.mask.now from.leaf w.old from.written w.new result }
@@ -158,13 +158,11 @@ impl Sieve<'_> {
     fn filter_children(&self, from: Reach, code: usize, levels: usize, w: &mut [u8]) -> Reach
         ensures { FiltersChildren self.now.sheet.now from.at code levels self.now.mask.now from.leaf w.old from.written w.new result }
     {
-        if code == STRUCT {
-            return self.filter_counted(from, 0, levels, w);
+        match code {
+            STRUCT => self.filter_counted(from, 0, levels, w),
+            UNION => self.filter_counted(from, 1, levels, w),
+            _ => self.filter_field(from, levels, w),
         }
-        if code == UNION {
-            return self.filter_counted(from, 1, levels, w);
-        }
-        self.filter_field(from, levels, w)
     }
 
     // A count, and as many children with so many bytes before each. How many are kept is known at the end, and written over the place held.

@@ -137,7 +137,8 @@ impl Expansion<'_> {
         self.put_name(&mut [], 0, at, path)
     }
 
-    // A column's head: "written columns lose metadata and order flag, keep their own nullability", and lose the dictionary number. A name that comes out empty has its bit clear.
+    // A column's head: "written columns lose metadata and order flag, keep their own nullability", and lose the dictionary number. A name
+    // that comes out empty has its bit clear.
     fn put_head(&self, w: &mut [u8], pos: usize, at: usize, path: &Path) -> usize
         ensures { (hs : List Head) (h : Head) → Above self.now.sheet.now path.now hs → Stands self.now.sheet.now at (head_bytes h) → Puts (head_bytes (schemas.plain_head (prefix self.now.separator.now hs ++ h.name) h)) w.old pos w.new result }
     {

@@ -17,40 +17,45 @@ use Rattle.model.proofs.Entries.{entries, indices_even, indices_odd, entries_nex
 use Rattle.model.proofs.Flags.{Flags, flags_none, flags_more}
 use Rattle.project.specs.Answers.{checked_of, verdict_of}
 use Rattle.project.specs.Seen.{index_fits_by, marked}
-use Rattle.project.specs.declared.Checked.{Checked}
-use Rattle.project.specs.declared.Checked.TheVariants.{Valid, Refused}
+use Rattle.std.specs.Prelude.{Result, Ok, Err}
+use Rattle.buffer.specs.declared.refusal.Refusal.{Refusal}
+use Rattle.buffer.specs.Refusals.{numbered}
+
+-- what is said of an entry, or of a list of entries, by its number and its place
+abbrev Verdict : Type 0
+Verdict = Result Unit (ℕ × ℕ)
 
 -- One entry
 
 module _ (strict : Bool) (seen : Bytes) (i place : ℕ) where
-  abbrev answer : Checked
+  abbrev answer : Verdict
   answer = verdict_of (index_fits_by strict seen i) place
 
-  pub entry_outside : length seen ≤ i → Refused index_out_of_bounds place ≡ answer
+  pub entry_outside : length seen ≤ i → Err (index_out_of_bounds, place) ≡ answer
   unfolding index_fits_by unless ◌then◌
   entry_outside h = rw (le-ltb i (length seen) h)
 
-  pub entry_repeated : i < length seen → strict ≡ true → eqb (get_or seen i 0) 1 ≡ true → Refused index_repeated place ≡ answer
+  pub entry_repeated : i < length seen → strict ≡ true → eqb (get_or seen i 0) 1 ≡ true → Err (index_repeated, place) ≡ answer
   unfolding index_fits_by unless ◌then◌
   entry_repeated h s k = rw (lt-ltb i (length seen) h, s, k)
 
-  pub entry_any : i < length seen → strict ≡ false → (Valid ≡ answer) × (seen ≡ marked strict Valid seen i)
+  pub entry_any : i < length seen → strict ≡ false → (Ok tt ≡ answer) × (seen ≡ marked strict (Ok tt) seen i)
   unfolding index_fits_by unless ◌then◌
   entry_any h s = (rw (lt-ltb i (length seen) h, s), rw s)
 
-  pub entry_new : i < length seen → strict ≡ true → eqb (get_or seen i 0) 1 ≡ false → (Valid ≡ answer) × (set seen i 1 ≡ marked strict Valid seen i)
+  pub entry_new : i < length seen → strict ≡ true → eqb (get_or seen i 0) 1 ≡ false → (Ok tt ≡ answer) × (set seen i 1 ≡ marked strict (Ok tt) seen i)
   unfolding index_fits_by unless ◌then◌
   entry_new h s k = (rw (lt-ltb i (length seen) h, s, k), rw s)
 
   -- a valid entry is the index of a column
-  entry_inside : answer ≡ Valid → i < length seen
+  entry_inside : answer ≡ Ok tt → i < length seen
   unfolding index_fits_by unless ◌then◌
   entry_inside h = go (ltb i (length seen)) refl h
     where
-      go : (t : Bool) → ltb i (length seen) ≡ t → verdict_of (unless t index_out_of_bounds then unless (not strict || not (eqb (get_or seen i 0) 1)) index_repeated) place ≡ Valid
+      go : (t : Bool) → ltb i (length seen) ≡ t → verdict_of (unless t index_out_of_bounds then unless (not strict || not (eqb (get_or seen i 0) 1)) index_repeated) place ≡ Ok tt
           → i < length seen
       go true e h = ltb-true i (length seen) e
-      go false e h = let z : ◌≡◌ {A = ℕ} 0 1 = cc in absurd (omega arith)
+      go false e h = cc
 
 -- only the strict projection looks at the flags
 abbrev Marks : Bool → Bytes → List ℕ → Type 0
@@ -70,23 +75,23 @@ fits_same strict {seen} {passed} f count l i = go strict f (ltb i (length seen))
     go false f false e = refl
 
 -- the flags after a valid entry
-marks_more : (strict : Bool) {seen : Bytes} {passed : List ℕ} {r : Checked} → Marks strict seen passed → (i : ℕ) → r ≡ Valid → i < length seen → Marks strict (marked strict r seen i) (i ∷ passed)
+marks_more : (strict : Bool) {seen : Bytes} {passed : List ℕ} {r : Result Unit Refusal} → Marks strict seen passed → (i : ℕ) → r ≡ Ok tt → i < length seen → Marks strict (marked strict r seen i) (i ∷ passed)
 marks_more true {seen} {passed} f i e h s = rw e (flags_more i (f refl) h)
 marks_more false f i e h s = absurd (false≢true s)
 
-length_marked : (strict : Bool) (r : Checked) (seen : Bytes) (i : ℕ) → length (marked strict r seen i) ≡ length seen
-length_marked true Valid seen i = length-set seen i 1
-length_marked false Valid seen i = refl
-length_marked strict (Refused n p) seen i = refl
+length_marked : (strict : Bool) (r : Result Unit Refusal) (seen : Bytes) (i : ℕ) → length (marked strict r seen i) ≡ length seen
+length_marked true (Ok u) seen i = length-set seen i 1
+length_marked false (Ok u) seen i = refl
+length_marked strict (Err r) seen i = refl
 
 -- what follows an entry that is refused, or valid
 module _ {A B : Type 0} (place : ℕ) (a : A) (e : ℕ) (f : A → ℕ → Step B) where
-  next_refused : (v : ℕ) {n p : ℕ} → verdict_of v place ≡ Refused n p → checked_of (next (judged v place a e) f) ≡ Refused n p
+  next_refused : (v : ℕ) {n p : ℕ} → verdict_of v place ≡ Err (n, p) → checked_of (next (judged v place a e) f) ≡ Err (n, p)
   unfolding next judged
   next_refused zero h = cc
   next_refused (suc v) h = h
 
-  next_valid : (v : ℕ) → verdict_of v place ≡ Valid → checked_of (next (judged v place a e) f) ≡ checked_of (f a e)
+  next_valid : (v : ℕ) → verdict_of v place ≡ Ok tt → checked_of (next (judged v place a e) f) ≡ checked_of (f a e)
   unfolding next judged
   next_valid zero h = refl
   next_valid (suc v) h = cc
@@ -98,7 +103,7 @@ made_checked f (got a e) = refl
 made_checked f (bad n p) = refl
 
 module _ (strict : Bool) (x : Schema) (list : Bytes) where
-  abbrev whole : Checked
+  abbrev whole : Verdict
   whole = checked_of (project strict x list)
 
   -- the schema of the columns selected
@@ -112,7 +117,7 @@ module _ (strict : Bool) (x : Schema) (list : Bytes) where
   unfolding project next rest with_columns
   project_entries n h = sym (ap (λ r. checked_of (next r rest)) (indices_even list n h) ∙ made_checked with_columns (selected strict x.columns (entries list) [] 0))
 
-  pub project_odd : length list % 2 ≡ 1 → Refused odd_list 0 ≡ whole
+  pub project_odd : length list % 2 ≡ 1 → Err (odd_list, 0) ≡ whole
   unfolding project next rest with_columns
   project_odd h = ap (λ r. checked_of (next r rest)) (sym (indices_odd list (length list / 2) (omega (arith, h))))
 
@@ -124,7 +129,7 @@ pub record Walk (strict : Bool) (list : Bytes) (count : ℕ) (seen : Bytes) (e :
   pub same : (x : Schema) → length x.columns ≡ count → checked_of (selected strict x.columns (entries (drop (2 * e) list)) passed e) ≡ checked_of (project strict x list)
 
 -- what `check_list` ensures
-abbrev Checks : Bool → Bytes → ℕ → Checked → Type 0
+abbrev Checks : Bool → Bytes → ℕ → Verdict → Type 0
 Checks strict list count r = (x : Schema) → length x.columns ≡ count → r ≡ checked_of (project strict x list)
 
 -- flags that were cleared are as many
@@ -143,31 +148,32 @@ module _ (strict : Bool) (list : Bytes) where
   }
 
   module _ {count : ℕ} {seen : Bytes} {e : ℕ} (w : Walk strict list count seen e) where
-    pub walk_end : length list / 2 ≤ e → Checks strict list count Valid
+    pub walk_end : length list / 2 ≤ e → Checks strict list count (Ok tt)
     unfolding selected
     walk_end h x n = ap (λ is. checked_of (selected strict x.columns is w.passed e)) (sym (entries_end list e h)) ∙ w.same x n
 
     -- the entry at e, and its answer
-    module _ (h : e < length list / 2) {i : ℕ} (is : i ≡ get_or list (2 * e) 0 + 256 * get_or list (2 * e + 1) 0) {r : Checked}
-        (a : r ≡ verdict_of (index_fits_by strict seen i) e) where
-      verdict : (x : Schema) → length x.columns ≡ count → r ≡ verdict_of (index_fits strict (length x.columns) w.passed i) e
-      verdict x n = a ∙ ap (λ v. verdict_of v e) (fits_same strict w.marks (length x.columns) (w.size ∙ sym n) i)
+    module _ (h : e < length list / 2) {i : ℕ} (is : i ≡ get_or list (2 * e) 0 + 256 * get_or list (2 * e + 1) 0) where
+      verdict : {v : Verdict} → v ≡ verdict_of (index_fits_by strict seen i) e → (x : Schema) → length x.columns ≡ count
+          → v ≡ verdict_of (index_fits strict (length x.columns) w.passed i) e
+      verdict a x n = a ∙ ap (λ v. verdict_of v e) (fits_same strict w.marks (length x.columns) (w.size ∙ sym n) i)
 
       left_same : (x : Schema) → length x.columns ≡ count → checked_of (selected strict x.columns (i ∷ entries (drop (2 * (e + 1)) list)) w.passed e) ≡ checked_of (project strict x list)
       left_same x n = ap (λ is. checked_of (selected strict x.columns is w.passed e)) (sym (entries_next list e h is)) ∙ w.same x n
 
-      pub walk_stop : {n p : ℕ} → r ≡ Refused n p → Checks strict list count r
-      unfolding selected
-      walk_stop g x n = g ∙ sym (next_refused e _ _ _ _ (sym (verdict x n) ∙ g)) ∙ left_same x n
+      module _ {r : Result Unit Refusal} (a : numbered r ≡ verdict_of (index_fits_by strict seen i) e) where
+        pub walk_stop : {y : Refusal} → r ≡ Err y → Checks strict list count (numbered r)
+        unfolding selected
+        walk_stop g x n = let k = ap numbered g in k ∙ sym (next_refused e _ _ _ _ (sym (verdict a x n) ∙ k)) ∙ left_same x n
 
-      pub walk_next : {after : Bytes} → r ≡ Valid → after ≡ marked strict r seen i → Walk strict list count after (e + 1)
-      unfolding selected
-      walk_next {after} g m = record {
-        size = ap length m ∙ length_marked strict r seen i ∙ w.size;
-        passed = i ∷ w.passed;
-        marks = rw m (marks_more strict w.marks i g (entry_inside strict seen i e (sym a ∙ g)));
-        same = λ x n.
-            let s : e + 1 ≡ suc e = omega arith in
-            ap (λ k. checked_of (selected strict x.columns (entries (drop (2 * (e + 1)) list)) (i ∷ w.passed) k)) s
-            ∙ sym (next_valid e _ _ _ _ (sym (verdict x n) ∙ g) ∙ made_checked (λ rest. select x.columns i ++ rest) _) ∙ left_same x n;
-      }
+        pub walk_next : {after : Bytes} → r ≡ Ok tt → after ≡ marked strict r seen i → Walk strict list count after (e + 1)
+        unfolding selected
+        walk_next {after} g m = record {
+          size = ap length m ∙ length_marked strict r seen i ∙ w.size;
+          passed = i ∷ w.passed;
+          marks = rw m (marks_more strict w.marks i g (entry_inside strict seen i e (sym a ∙ ap numbered g)));
+          same = λ x n.
+              let s : e + 1 ≡ suc e = omega arith in
+              ap (λ k. checked_of (selected strict x.columns (entries (drop (2 * (e + 1)) list)) (i ∷ w.passed) k)) s
+              ∙ sym (next_valid e _ _ _ _ (sym (verdict a x n) ∙ ap numbered g) ∙ made_checked (λ rest. select x.columns i ++ rest) _) ∙ left_same x n;
+        }

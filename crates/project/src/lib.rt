@@ -13,29 +13,16 @@ ghost use Rattle.model.specs.Read.{got};
 ghost use Rattle.model.specs.Schema.{project};
 ghost use Rattle.model.specs.Call.{sheet_answer, acceptance, settled, zeros, project_call};
 ghost use Rattle.buffer.specs.Puts.{Puts};
+ghost use Rattle.buffer.specs.Refusals.{numbered};
 ghost use Rattle.buffer.specs.Leaves.{leaves};
 ghost use Rattle.walk.specs.Stands.{Stands};
 ghost use Rattle.project.specs.Answers.{checked_of, verdict_of};
 ghost use Rattle.project.specs.Seen.{index_fits_by, marked};
 ghost use Rattle.project.specs.Table.{Table};
 
-use buffer::Outcome;
-use sheet::{Cursor, Step};
+use buffer::{Number, Refusal};
+use sheet::Cursor;
 use walk::Elements;
-
-// What the check of an entry, or of a list of entries, answers: a refusal is its number and its place.
-#[derive(Clone, Copy)]
-pub enum Checked {
-    Valid,
-    Refused(u8, usize),
-}
-
-// The numbers of the refusals.
-const INDEX_OUT_OF_BOUNDS: u8 = 10;
-
-const INDEX_REPEATED: u8 = 11;
-
-const ODD_LIST: u8 = 17;
 
 // Writes a place as entry i of a table: its two lower bytes.
 fn put_place(work: &mut [u8], i: usize, place: usize)
@@ -61,43 +48,43 @@ fn write_places(s: &[u8], columns: Elements, work: &mut [u8])
 }
 
 // One entry, after those whose flag is set: 10; and if strict 11, or its own flag is set.
-fn check_entry(seen: &mut [u8], i: usize, strict: bool, at: usize) -> Checked
-    ensures { (result ≡ verdict_of (index_fits_by strict seen.old i) at) × (seen.new ≡ marked strict result seen.old i) }
+fn check_entry(seen: &mut [u8], i: usize, strict: bool, at: usize) -> Result<(), Refusal>
+    ensures { (numbered result ≡ verdict_of (index_fits_by strict seen.old i) at) × (seen.new ≡ marked strict result seen.old i) }
 {
     if seen.len() <= i {
-        return Checked::Refused(INDEX_OUT_OF_BOUNDS, at);
+        return Err(Refusal(Number::IndexOutOfBounds, at));
     }
     if !strict {
-        return Checked::Valid;
+        return Ok(());
     }
     if seen[i] == 1 {
-        return Checked::Refused(INDEX_REPEATED, at);
+        return Err(Refusal(Number::IndexRepeated, at));
     }
     seen[i] = 1;
-    Checked::Valid
+    Ok(())
 }
 
 // The list against as many columns as there are flags: 17, then the entries in order.
-fn check_list(list: &[u8], strict: bool, seen: &mut [u8]) -> Checked
-    ensures { (x : Schema) → length x.columns ≡ length seen.old → result ≡ checked_of (project strict x list.now) }
+fn check_list(list: &[u8], strict: bool, seen: &mut [u8]) -> Result<(), Refusal>
+    ensures { (x : Schema) → length x.columns ≡ length seen.old → numbered result ≡ checked_of (project strict x list.now) }
 {
     if list.len() % 2 == 1 {
-        return Checked::Refused(ODD_LIST, 0);
+        return Err(Refusal::from(Number::OddList));
     }
     buffer::clear(seen);
     for e in 0..list.len() / 2 {
         let checked = check_entry(seen, walk::two(list, 2 * e), strict, e);
-        let Checked::Valid = checked else {
+        let Ok(()) = checked else {
             return checked;
         };
     }
-    Checked::Valid
+    Ok(())
 }
 
 // The same with the flags behind a table of so many columns, which stays as it is.
-fn check_behind(list: &[u8], strict: bool, count: usize, work: &mut [u8]) -> Checked
+fn check_behind(list: &[u8], strict: bool, count: usize, work: &mut [u8]) -> Result<(), Refusal>
     requires { 3 * count + 2 ≤ length work.old }
-    ensures { (take (2 * count + 2) work.new ≡ take (2 * count + 2) work.old) × ((x : Schema) → length x.columns ≡ count → result ≡ checked_of (project strict x list.now)) }
+    ensures { (take (2 * count + 2) work.new ≡ take (2 * count + 2) work.old) × ((x : Schema) → length x.columns ≡ count → numbered result ≡ checked_of (project strict x list.now)) }
 {
     let from = 2 * count + 2;
     let end = from + count;
@@ -106,13 +93,13 @@ fn check_behind(list: &[u8], strict: bool, count: usize, work: &mut [u8]) -> Che
 
 // The table of a sheet that was read, and the verdict on the list. The work buffer has room, since a sheet has more bytes than columns:
 // the test is for any other bytes.
-fn check_columns(s: &[u8], list: &[u8], strict: bool, work: &mut [u8]) -> Checked
-    ensures { (x : Schema) → Fits x → s.now ≡ sheet_bytes x → 4 * length s.now ≤ length work.old → (result ≡ checked_of (project strict x list.now)) × Table s.now work.new x.columns }
+fn check_columns(s: &[u8], list: &[u8], strict: bool, work: &mut [u8]) -> Result<(), Refusal>
+    ensures { (x : Schema) → Fits x → s.now ≡ sheet_bytes x → 4 * length s.now ≤ length work.old → (numbered result ≡ checked_of (project strict x list.now)) × Table s.now work.new x.columns }
 {
     let columns = walk::find_columns(s, 0);
     let count = columns.count;
     if work.len() / 4 <= count {
-        return Checked::Valid;
+        return Ok(());
     }
     write_places(s, columns, work);
     check_behind(list, strict, count, work)
@@ -160,27 +147,38 @@ fn put_projected(s: &[u8], table: &[u8], list: &[u8], dst: &mut [u8]) -> usize
 }
 
 // The end of a call whose list was accepted: the answer's length first, then 30, 31, or the answer.
-fn answer_projected(s: &[u8], list: &[u8], work: &mut [u8], answer: &mut [u8]) -> Outcome
+fn answer_projected(
+    s: &[u8],
+    list: &[u8],
+    work: &mut [u8],
+    answer: &mut [u8],
+) -> Result<usize, Refusal>
     ensures { (x y : Schema) (strict : Bool) (n : ℕ) → s.now ≡ sheet_bytes x → Table s.now work.old x.columns → project strict x list.now ≡ got y n → leaves result answer.new work.new ≡ acceptance (sheet_bytes y) (zeros (length work.old)) answer.old }
 {
     let written = put_projected(s, work, list, &mut []);
-    let number = buffer::length_number(written, answer.len());
-    if number != Outcome::ACCEPTED {
-        return buffer::refuse(work, number, 0);
+    match buffer::length_fits(written, answer.len()) {
+        Err(refusal) => buffer::refuse(work, refusal),
+        Ok(()) => {
+            put_projected(s, work, list, answer);
+            buffer::clear(work);
+            Ok(written)
+        }
     }
-    put_projected(s, work, list, answer);
-    buffer::clear(work);
-    Outcome::accepted(written)
 }
 
 // What a call ends with whose sheet was read: the refusal of the list, or the projection.
-fn project_read(s: &[u8], list: &[u8], strict: bool, work: &mut [u8], answer: &mut [u8]) -> Outcome
+fn project_read(
+    s: &[u8],
+    list: &[u8],
+    strict: bool,
+    work: &mut [u8],
+    answer: &mut [u8],
+) -> Result<usize, Refusal>
     ensures { (x : Schema) → Fits x → s.now ≡ sheet_bytes x → 4 * length s.now ≤ length work.old → leaves result answer.new work.new ≡ settled (sheet_answer (project strict x list.now)) (zeros (length work.old)) answer.old }
 {
-    let checked = check_columns(s, list, strict, work);
-    match checked {
-        Checked::Refused(number, place) => buffer::refuse(work, number, place),
-        Checked::Valid => answer_projected(s, list, work, answer),
+    match check_columns(s, list, strict, work) {
+        Err(entry) => buffer::refuse(work, entry),
+        Ok(()) => answer_projected(s, list, work, answer),
     }
 }
 
@@ -191,27 +189,35 @@ fn project_by(
     strict: bool,
     work: &mut [u8],
     answer: &mut [u8],
-) -> Outcome
+) -> Result<usize, Refusal>
     ensures { leaves result answer.new work.new ≡ project_call strict sheet.now list.now work.old answer.old }
 {
-    if buffer::lacks_room(work.len(), sheet.len()) {
-        return Outcome::refused(Outcome::WORK_BUFFER_SHORT, 0);
-    }
+    buffer::work_fits(work.len(), sheet.len())?;
     match sheet::read_sheet(sheet) {
-        Step::Refused(number, place) => buffer::refuse(work, number, place),
-        Step::Next(_) => project_read(sheet, list, strict, work, answer),
+        Err(refusal) => buffer::refuse(work, refusal),
+        Ok(_) => project_read(sheet, list, strict, work, answer),
     }
 }
 
 // `Schema::project`: the columns of the list's entries, in the list's order.
-pub fn project(sheet: &[u8], list: &[u8], work: &mut [u8], answer: &mut [u8]) -> Outcome
+pub fn project(
+    sheet: &[u8],
+    list: &[u8],
+    work: &mut [u8],
+    answer: &mut [u8],
+) -> Result<usize, Refusal>
     ensures { leaves result answer.new work.new ≡ project_call false sheet.now list.now work.old answer.old }
 {
     project_by(sheet, list, false, work, answer)
 }
 
 // `SchemaBuilder::project`: an index may stand in the list once.
-pub fn project_strict(sheet: &[u8], list: &[u8], work: &mut [u8], answer: &mut [u8]) -> Outcome
+pub fn project_strict(
+    sheet: &[u8],
+    list: &[u8],
+    work: &mut [u8],
+    answer: &mut [u8],
+) -> Result<usize, Refusal>
     ensures { leaves result answer.new work.new ≡ project_call true sheet.now list.now work.old answer.old }
 {
     project_by(sheet, list, true, work, answer)

@@ -3,7 +3,6 @@ use Prim.Native.Nat.{ℕ, ◌+◌, ◌*◌, ◌-◌, ◌/◌, ◌≤◌, ◌<◌
 use native.Mathlib.Omega.{arith}
 use mathlib.Core.Path.{◌≡◌, refl, sym, ap, subst, ◌∙◌}
 use mathlib.Core.List.{List, [], ◌∷◌}
-use mathlib.Core.Bool.{Bool, false}
 use lib.ListN.{length, take, length-append}
 use lib.Dec.{ltb}
 use Rattle.model.specs.Numbers.{max_levels, work_bytes_per_sheet_byte}
@@ -15,12 +14,13 @@ use Rattle.model.specs.Schema.{each_at, flattened_fields}
 use Rattle.model.specs.Call.{Answer, bytes, refused, flattened_fields_answer, flattened_fields_call, zeros, acceptance}
 use Rattle.model.proofs.WellFormed.{columns_laid_out}
 use Rattle.model.proofs.Flattened.{length_numbers, flattened_no_longer, flattened_half}
-use Rattle.sheet.specs.declared.Step.{Step}
-use Rattle.sheet.specs.declared.Step.TheVariants.{Refused}
 use Rattle.sheet.specs.Answers.{step_of}
 use Rattle.walk.specs.Stands.{Stands, ColumnsAt}
 use Rattle.walk.proofs.Standing.{whole_stands}
-use Rattle.buffer.specs.declared.Outcome.{Outcome}
+use Rattle.std.specs.Prelude.{Result, Ok, Err}
+use Rattle.buffer.specs.declared.refusal.Refusal.{Refusal}
+use Rattle.buffer.specs.Refusals.{number_of, numbered}
+use Rattle.buffer.specs.Puts.{unless_short}
 use Rattle.buffer.specs.Buffer.{pasted}
 use Rattle.buffer.specs.Leaves.{leaves}
 use Rattle.buffer.proofs.Pasted.{length_pasted, pasted_front, take_pasted}
@@ -42,10 +42,6 @@ columns_places {s} x {n} {first} a = go x.metadata x.columns a.ends
         let place : first ≡ 1 + length (part (with_count pair_bytes) m) + 2 =
         omega (arith, e, length-append (part (with_count pair_bytes) m) (part (with_count column_bytes) (c ∷ cs))) in
         ap (λ p. each_at column_bytes (own max_levels) p (c ∷ cs)) place
-
-length_counted : (ns : List ℕ) → length (with_count u16 ns) ≡ 2 + 2 * length ns
-unfolding with_count u16
-length_counted ns = omega (arith, length_numbers ns)
 
 -- the offsets behind the first two bytes, and then their count in these
 counted_written : (ns : List ℕ) {s b : Bytes} {place : ℕ} {w w₁ w₂ : Bytes} {r t k q : ℕ} → length s < 65536 → Stands s place b → length ns < 65536
@@ -77,7 +73,7 @@ fields_listed {s} {w} {w₁} {w₂} {n} {first} {r} {t} f g e h = record {
 abbrev pub answered : Schema → Answer
 answered x = bytes (with_count u16 (flattened_fields x))
 
-pub fields_refused : (s : Bytes) {k : Step} → k ≡ step_of (read_sheet s) → {n p : ℕ} → k ≡ Refused n p → flattened_fields_answer s ≡ refused n p
+pub fields_refused : (s : Bytes) {read : Result ℕ Refusal} {x : Refusal} → numbered read ≡ step_of (read_sheet s) → read ≡ Err x → flattened_fields_answer s ≡ refused (number_of x.0) x.1
 unfolding flattened_fields_answer
 fields_refused s e h = sheet_refused s answered e h
 
@@ -93,7 +89,7 @@ module _ {s : Bytes} (a : Whole s answered) where
   unfolding sheet_bytes
   sheet_size = omega (arith, ap length a.bytes)
 
-  module _ {t : Bool} {w w' : Bytes} {r : ℕ} (tested : t ≡ ltb (length w) (work_bytes_per_sheet_byte * length s)) (h : t ≡ false) (g : Listed s w w' r) where
+  module _ {fits : Result Unit Refusal} {w w' : Bytes} {r : ℕ} (tested : fits ≡ unless_short (ltb (length w) (work_bytes_per_sheet_byte * length s))) (h : fits ≡ Ok tt) (g : Listed s w w' r) where
     room : length listing ≤ length w
     room = omega (arith, room_enough (length w) (length s) tested h, sheet_size, flattened_no_longer a.schema, ap length a.bytes)
 
@@ -103,7 +99,7 @@ module _ {s : Bytes} (a : Whole s answered) where
     pub end_inside : r ≤ length w'
     end_inside = omega (arith, written.0, room, ap length written.1, length_pasted w 0 listing (omega (arith, room)))
 
-    pub call_listed : (o : Outcome) {work : Bytes} (answer answer' : Bytes) → ((z : Bytes) → leaves o answer' z ≡ acceptance (take r w') z answer) → work ≡ zeros (length w')
+    pub call_listed : (o : Result ℕ Refusal) {work : Bytes} (answer answer' : Bytes) → ((z : Bytes) → leaves o answer' z ≡ acceptance (take r w') z answer) → work ≡ zeros (length w')
         → leaves o answer' work ≡ flattened_fields_call s w answer
     call_listed o {work} answer answer' f z =
         let len : length w' ≡ length w = ap length written.1 ∙ length_pasted w 0 listing (omega (arith, room)) in

@@ -19,14 +19,16 @@ use Rattle.model.proofs.Lists.{every_append}
 use Rattle.model.proofs.WellFormed.{columns_laid_out}
 use Rattle.model.proofs.Look.{position_found}
 use Rattle.model.proofs.Search.{position_first, position_none}
-use Rattle.buffer.specs.declared.Outcome.{Outcome}
-use Rattle.buffer.specs.Leaves.{leaves, refused_with}
+use Rattle.buffer.specs.declared.refusal.Number.{Number}
+use Rattle.buffer.specs.declared.refusal.Refusal.{Refusal}
+use Rattle.buffer.specs.Refusals.{without_place}
+use Rattle.buffer.specs.Leaves.{leaves}
 use Rattle.buffer.proofs.Ends.{leaves_refusal}
 use Rattle.walk.specs.Stands.{Stands, SkipsField, ColumnsAt}
 use Rattle.walk.proofs.Schemas.{sheet_columns}
 use Rattle.walk.proofs.Descents.{head_stands, name_stands, no_name, body_stands}
 use Rattle.walk.proofs.Passed.{Passed, Here, passed_again, passed_here, passed_done}
-use Rattle.std.specs.Prelude.{Option, Some, None}
+use Rattle.std.specs.Prelude.{Option, Some, None, Result, Err}
 use Rattle.schema.specs.Answers.{match_of, Narrow}
 use Rattle.walk.proofs.Standing.{whole_stands, first_stands, two_stands, num_u16}
 use Rattle.walk.proofs.Parts.{Ahead, two_at, bit_true, bit_false}
@@ -152,8 +154,8 @@ module _ {m : Option ℕ} (work answer : Bytes) where
   index_written {i} {x} h k (found j) e w = let q : i ≡ j = cc in k (omega (arith, q, w)) ∙ ap (λ n. acceptance (u16 n) work answer) q
   index_written {i} {x} h k missing e w = absurd (let z : ◌≡◌ {A = ℕ} 0 1 = cc in omega arith)
 
-  pub index_missing : {r : Outcome} {after : Bytes} → m ≡ None → r ≡ refused_with no_such_column 0 → after ≡ work
+  pub index_missing : {r : Result ℕ Refusal} {after : Bytes} → m ≡ None → r ≡ Err (without_place Number.NoSuchColumn) → after ≡ work
       → (f : Found) → m ≡ match_of f → Narrow f → leaves r answer after ≡ settled (and_then (if_found f) bytes) work answer
   unfolding settled and_then if_found
   index_missing h k z (found j) e w = absurd (let z : ◌≡◌ {A = ℕ} 0 1 = cc in omega arith)
-  index_missing h k z missing e w = leaves_refusal no_such_column 0 _ answer k ∙ ap (λ v. refusal no_such_column 0 v answer) z
+  index_missing h k z missing e w = leaves_refusal (without_place Number.NoSuchColumn) _ answer k ∙ ap (λ v. refusal no_such_column 0 v answer) z

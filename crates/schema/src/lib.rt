@@ -15,13 +15,10 @@ ghost use Rattle.walk.specs.Stands.{Stands};
 ghost use Rattle.schema.specs.Answers.{match_of, Narrow};
 ghost use Rattle.schema.specs.Flattens.{Puts, FlattensType, FlattensField, FlattensRow, FlattensChildren, Listed};
 
-use buffer::Outcome;
+use buffer::{Number, Refusal};
 use layout::{ChildrenKind, RUN_END_ENCODED};
-use sheet::{Cursor, Step};
+use sheet::Cursor;
 use walk::Elements;
-
-// The number of the refusal: no column of that name.
-const NO_SUCH_COLUMN: u8 = 13;
 
 // Whether the text that stands at a place is this one.
 fn is_text(s: &[u8], at: usize, name: &[u8]) -> bool
@@ -66,25 +63,28 @@ fn find_column(s: &[u8], name: &[u8]) -> Option<usize>
 }
 
 // "`index_of` writes a u16."
-fn answer_match(m: Option<usize>, work: &mut [u8], answer: &mut [u8]) -> Outcome
+fn answer_match(m: Option<usize>, work: &mut [u8], answer: &mut [u8]) -> Result<usize, Refusal>
     ensures { (f : Found) → m ≡ match_of f → Narrow f → leaves result answer.new work.new ≡ settled (and_then (if_found f) bytes) (zeros (length work.old)) answer.old }
 {
     match m {
         Some(i) => buffer::accept_u16(work, answer, i),
-        None => buffer::refuse(work, NO_SUCH_COLUMN, 0),
+        None => buffer::refuse(work, Refusal::from(Number::NoSuchColumn)),
     }
 }
 
 // `Schema::index_of`: the first column of this name.
-pub fn index_of(sheet: &[u8], name: &[u8], work: &mut [u8], answer: &mut [u8]) -> Outcome
+pub fn index_of(
+    sheet: &[u8],
+    name: &[u8],
+    work: &mut [u8],
+    answer: &mut [u8],
+) -> Result<usize, Refusal>
     ensures { leaves result answer.new work.new ≡ index_of_call sheet.now name.now work.old answer.old }
 {
-    if buffer::lacks_room(work.len(), sheet.len()) {
-        return Outcome::refused(Outcome::WORK_BUFFER_SHORT, 0);
-    }
+    buffer::work_fits(work.len(), sheet.len())?;
     match sheet::read_sheet(sheet) {
-        Step::Refused(number, place) => buffer::refuse(work, number, place),
-        Step::Next(_) => answer_match(find_column(sheet, name), work, answer),
+        Err(refusal) => buffer::refuse(work, refusal),
+        Ok(_) => answer_match(find_column(sheet, name), work, answer),
     }
 }
 
@@ -196,20 +196,17 @@ fn list_fields(s: &[u8], w: &mut [u8]) -> usize
 }
 
 // `Schema::flattened_fields`: "the count and the offset of each field's map in the sheet".
-pub fn flattened_fields(sheet: &[u8], work: &mut [u8], answer: &mut [u8]) -> Outcome
+pub fn flattened_fields(sheet: &[u8], work: &mut [u8], answer: &mut [u8]) -> Result<usize, Refusal>
     ensures { leaves result answer.new work.new ≡ flattened_fields_call sheet.now work.old answer.old }
 {
-    if buffer::lacks_room(work.len(), sheet.len()) {
-        return Outcome::refused(Outcome::WORK_BUFFER_SHORT, 0);
-    }
-    let read = sheet::read_sheet(sheet);
-    match read {
-        Step::Refused(number, place) => buffer::refuse(work, number, place),
-        Step::Next(_) => {
+    buffer::work_fits(work.len(), sheet.len())?;
+    match sheet::read_sheet(sheet) {
+        Err(refusal) => buffer::refuse(work, refusal),
+        Ok(_) => {
             let end = list_fields(sheet, work);
-            let outcome = buffer::write_answer(answer, &work[..end]);
+            let answered = buffer::write_answer(answer, &work[..end]);
             buffer::clear(work);
-            outcome
+            answered
         }
     }
 }

@@ -11,14 +11,14 @@ use Rattle.filter.proofs.Sieve.+filtering.Goals as goal
 pub filter_child-returns : goal.filter_child-returns
 filter_child-returns t c = child_filtered _ _ _ c.ahead-field.ensures c.copy_to-start.ensures c.filter_field-reach.ensures c.unless_nothing.ensures
 
-pub filter_children-returns-then-code-eq-STRUCT : goal.filter_children-returns-then-code-eq-STRUCT
-filter_children-returns-then-code-eq-STRUCT t c = struct_filtered _ _ _ c.if-code-eq-STRUCT.true c.filter_counted.ensures
+pub filter_children-returns-in-32 : goal.filter_children-returns-in-32
+filter_children-returns-in-32 t c = struct_filtered _ _ _ c.in-32.is c.filter_counted.ensures
 
-pub filter_children-returns-then-code-eq-UNION : goal.filter_children-returns-then-code-eq-UNION
-filter_children-returns-then-code-eq-UNION t c = union_filtered _ _ _ c.if-code-eq-UNION.true c.filter_counted-then-code-eq-UNION.ensures
+pub filter_children-returns-in-33 : goal.filter_children-returns-in-33
+filter_children-returns-in-33 t c = union_filtered _ _ _ c.in-33.is c.filter_counted-in-33.ensures
 
-pub filter_children-returns : goal.filter_children-returns
-filter_children-returns t c = others_filtered _ _ _ c.if-code-eq-STRUCT.false c.if-code-eq-UNION.false c.filter_field.ensures
+pub filter_children-returns-in_default : goal.filter_children-returns-in_default
+filter_children-returns-in_default t c = others_filtered _ _ _ (λ e. omega (arith, e)) (λ e. omega (arith, e)) c.filter_field.ensures
 
 pub filter_counted-returns : goal.filter_counted-returns
 filter_counted-returns t c = counted_filtered _ _ _ c.counted-children.ensures.at c.counted-children.ensures.count c.put_two.ensures c.filter_row-row.ensures c.put_two-2.ensures c.unless_nothing.ensures

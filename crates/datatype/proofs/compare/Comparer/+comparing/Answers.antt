@@ -7,7 +7,7 @@ use Rattle.datatype.proofs.Rows.{rounds_begin, rounds_again, rounds_stop, rounds
 use Rattle.datatype.proofs.Children.{fields_heads, fields_types, pairs_types, pairs_fields, pairs_ids, pairs_members, order_fields, order_types, order_counts, order_rows, members_counts, members_every, kids_members, kids_order}
 use Rattle.datatype.proofs.Members.{one_begin, one_again, one_found, one_none, each_begin, each_again, each_stop, each_done}
 use Rattle.datatype.proofs.Types.{no_types, types_codes, types_plain, types_params, types_kids}
-use Rattle.datatype.proofs.compare.+comparing.Goals as goal
+use Rattle.datatype.proofs.compare.Comparer.+comparing.Goals as goal
 
 pub compare_child-returns-in-KeyAndValue : goal.compare_child-returns-in-KeyAndValue
 compare_child-returns-in-KeyAndValue t c = pairs_types _ _ c.in-KeyAndValue.is c.compare_type.ensures
@@ -25,7 +25,7 @@ pub compare_children-returns-then-by_id : goal.compare_children-returns-then-by_
 compare_children-returns-then-by_id t c = kids_members _ _ _ c.by_id.ensures c.if-by_id.true c.compare_members.ensures
 
 pub compare_children-returns : goal.compare_children-returns
-compare_children-returns t c = kids_order _ _ _ c.by_id.ensures _ c.if-by_id.false c.children.ensures c.below.ensures c.compare_in_order.ensures
+compare_children-returns t c = kids_order _ _ _ c.by_id.ensures _ c.if-by_id.false c.children.ensures c.below-how.ensures c.compare_in_order.ensures
 
 pub compare_field-returns-then-not-compare_head : goal.compare_field-returns-then-not-compare_head
 compare_field-returns-then-not-compare_head t c = fields_heads _ c.if-not-compare_head.true c.compare_head.ensures

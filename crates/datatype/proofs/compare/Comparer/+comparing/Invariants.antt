@@ -7,7 +7,7 @@ use Rattle.datatype.specs.Children.{child_bytes}
 use Rattle.datatype.specs.Comparisons.{compare_child}
 use Rattle.datatype.proofs.Rows.{Rounds}
 use Rattle.datatype.proofs.Members.{One, EachOne}
-use Rattle.datatype.proofs.compare.+comparing.Given as goal
+use Rattle.datatype.proofs.compare.Comparer.+comparing.Given as goal
 
 abbrev pub decreases-compare_child : goal.decreases-compare_child
 decreases-compare_child l = 8 * l.levels + 2
@@ -37,10 +37,10 @@ abbrev pub decreases-has_member : goal.decreases-has_member
 decreases-has_member l = 8 * l.levels + 3
 
 abbrev pub invariant-compare_row-loop : goal.invariant-compare_row-loop
-invariant-compare_row-loop v = (l : ℕ) → l ≤ v.levels → Rounds (Child l (children_of v.kind)) (child_bytes l (children_of v.kind)) (compare_child v.how l) v.s v.t v.a v.b v.count v.place v.other v.counter
+invariant-compare_row-loop v = (l : ℕ) → l ≤ v.levels → Rounds (Child l (children_of v.kind)) (child_bytes l (children_of v.kind)) (compare_child v.self.how l) v.self.own.now v.self.other.now v.a v.b v.count v.place v.other v.counter
 
 abbrev pub invariant-every_member-loop : goal.invariant-every_member-loop
-invariant-every_member-loop l = EachOne l.how l.s l.fn.own.at l.fn.own.count l.t l.others.at l.others.count l.levels l.place l.counter
+invariant-every_member-loop l = EachOne l.self.how l.self.own.now l.fn.own.at l.fn.own.count l.self.other.now l.others.at l.others.count l.levels l.place l.counter
 
 abbrev pub invariant-has_member-loop : goal.invariant-has_member-loop
-invariant-has_member-loop l = One l.how l.s l.a l.t l.fn.others.at l.fn.others.count l.levels l.place l.counter
+invariant-has_member-loop l = One l.self.how l.self.own.now l.a l.self.other.now l.fn.others.at l.fn.others.count l.levels l.place l.counter

@@ -1,7 +1,7 @@
 -- `same_head_lem`: the maps, then the bytes behind them.
 use Rattle.datatype.proofs.Encodings.{equal, unequal}
 use Rattle.datatype.proofs.Heads.{heads_by_low, heads_by_high, heads_by_rest}
-use Rattle.datatype.proofs.compare.same_head.Goals as goal
+use Rattle.datatype.proofs.compare.Comparer.same_head.Goals as goal
 
 pub returns-then-bit : goal.returns-then-bit
 returns-then-bit c = heads_by_low c.byte-map.ensures.0 c.byte-other.ensures.0 c.bit.ensures c.bit-2.ensures (unequal _ _ c.if-bit.true)

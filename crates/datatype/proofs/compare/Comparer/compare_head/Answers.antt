@@ -2,7 +2,7 @@
 use Rattle.datatype.specs.Comparisons.{compare_head}
 use Rattle.datatype.specs.declared.compare.Comparison.TheVariants.{Equal, EqualsDatatype, Contains}
 use Rattle.datatype.proofs.Heads.{heads_alike, heads_as}
-use Rattle.datatype.proofs.compare.compare_head.Goals as goal
+use Rattle.datatype.proofs.compare.Comparer.compare_head.Goals as goal
 
 pub returns-in-Equal : goal.returns-in-Equal
 unfolding compare_head
