@@ -6,10 +6,10 @@ use mathlib.Core.List.{[], ◌∷◌, ◌++◌}
 use mathlib.Core.Bool.{false}
 use lib.Dec.{eqb, eqb→eq}
 use lib.ListN.{length, take, drop, get_or, length-drop}
-use lib.Seq.{take_all, length-take-le}
+use lib.Seq.{length-take-le}
 use Rattle.std.proofs.lemmas.List.{drop-drop}
 use borrow.Rule.Slice.PartMut.{mid_of, put_mid, same_len_mid}
-use borrow.Author.Tests.{lt-ltb, le-ltb, eq-eqb, ne_eqb}
+use borrow.Author.Tests.{lt-ltb, le-ltb}
 use Rattle.std.specs.Fmt.{decimal as text}
 use Rattle.std.proofs.lemmas.Fmt.{decimal_from_appends, length-decimal-le}
 use Rattle.hex.specs.Hex.{lower_digits, encode_with, encode_lower}

@@ -8,7 +8,7 @@ use lib.ListN.{length, take}
 use lib.Seq.{take_all, length-take-le}
 use lib.Dec.{ltb}
 use borrow.Author.Tests.{ltb-true, ltb-false, lt-ltb, le-ltb}
-use Rattle.model.specs.Numbers.{max_program_bytes, max_sheet_bytes, work_bytes_per_sheet_byte, input_too_long}
+use Rattle.model.specs.Numbers.{max_program_bytes, max_sheet_bytes, work_bytes_per_sheet_byte}
 use Rattle.model.specs.Bytes.{Bytes, AreBytes}
 use Rattle.model.specs.Call.{Exit, zeros, merge_call}
 use Rattle.model.specs.Program.{line_of, program_line}
