@@ -34,8 +34,8 @@ use Rattle.datatype.proofs.Rows.{counts_differ}
 abbrev pub Types : Comparison → Bytes → ℕ → Bytes → ℕ → ℕ → Bool → Type 0
 Types how s a t b levels r = (l : ℕ) (x y : DataType l) → l ≤ levels → Whole l x → Whole l y → Stands s a (type_bytes l x) → Stands t b (type_bytes l y) → r ≡ compare_type how l x y
 
-abbrev pub Fields' : Comparison → Bytes → ℕ → Bytes → ℕ → ℕ → Bool → Type 0
-Fields' how s a t b levels r = (l : ℕ) (f g : Field l) → l ≤ levels → Whole l f.data_type → Whole l g.data_type
+abbrev pub TwoFields : Comparison → Bytes → ℕ → Bytes → ℕ → ℕ → Bool → Type 0
+TwoFields how s a t b levels r = (l : ℕ) (f g : Field l) → l ≤ levels → Whole l f.data_type → Whole l g.data_type
     → Stands s a (field_bytes (type_bytes l) f) → Stands t b (field_bytes (type_bytes l) g) → r ≡ compare_field how l f g
 
 abbrev pub Pairs : Comparison → Bytes → ℕ → Bytes → ℕ → Children → ℕ → Bool → Type 0
@@ -63,7 +63,7 @@ Kids how s a t b code levels r = (l : ℕ) (js ks : List (Field l)) → l ≤ le
 
 module _ (how : Comparison) {s t : Bytes} {a b levels : ℕ} where
   -- heads that differ
-  pub fields_heads : {r : Bool} → r ≡ false → Heads (compare_head how) s a t b r → Fields' how s a t b levels false
+  pub fields_heads : {r : Bool} → r ≡ false → Heads (compare_head how) s a t b r → TwoFields how s a t b levels false
   unfolding field_bytes
   fields_heads {r} e h l f g n w w' st st' =
       ap (λ x. x && compare_type how l f.data_type g.data_type)
@@ -72,7 +72,7 @@ module _ (how : Comparison) {s t : Bytes} {a b levels : ℕ} where
 
   -- heads that are equal: the types decide
   pub fields_types : {p q : ℕ} {r z : Bool} → r ≡ true → Heads (compare_head how) s a t b r → ((h : Head) → Skips s a (head_bytes h) p) → ((h : Head) → Skips t b (head_bytes h) q)
-      → Types how s p t q levels z → Fields' how s a t b levels z
+      → Types how s p t q levels z → TwoFields how s a t b levels z
   unfolding field_bytes
   fields_types {r = r} {z = z} e h sk sk' i l f g n w w' st st' =
       i l f.data_type g.data_type n w w' (stands_behind (sk f.head) st) (stands_behind (sk' g.head) st')
@@ -87,7 +87,7 @@ module _ (how : Comparison) {s t : Bytes} {a b : ℕ} (levels : ℕ) {kind : Chi
   unfolding children_of child_bytes
   pairs_types e f = rw e λ l j k n w w' st st'. f l j.data_type k.data_type n w.1 w'.1 st st' ∙ no_heads how l j k w.0 w'.0
 
-  pub pairs_fields : {r : Bool} → ((n : ℕ) × kind ≡ Fields n) ⊎ kind ≡ Counted → Fields' how s a t b levels r → Pairs how s a t b (children_of kind) levels r
+  pub pairs_fields : {r : Bool} → ((n : ℕ) × kind ≡ Fields n) ⊎ kind ≡ Counted → TwoFields how s a t b levels r → Pairs how s a t b (children_of kind) levels r
   unfolding child_bytes
   pairs_fields {r} e f =
       field_case (λ c. Pairs how s a t b c levels r) (λ n l j k m w w' st st'. f l j k m w.1 w'.1 st st' ∙ sym (same_ids how l j k (w.0 ∙ sym w'.0)))
@@ -98,7 +98,7 @@ module _ (how : Comparison) {s t : Bytes} {a b : ℕ} (levels : ℕ) {kind : Chi
     unfolding children_of child_bytes
     pairs_ids d = rw c λ l j k m w w' st st'. other_ids how l j k λ i. d (e ∙ byte_stands st ∙ i ∙ sym (e' ∙ byte_stands st'))
 
-    pub pairs_members : {p q : ℕ} {r : Bool} → x ≡ y → Ahead s a 1 p → Ahead t b 1 q → Fields' how s p t q levels r → Pairs how s a t b (children_of kind) levels r
+    pub pairs_members : {p q : ℕ} {r : Bool} → x ≡ y → Ahead s a 1 p → Ahead t b 1 q → TwoFields how s p t q levels r → Pairs how s a t b (children_of kind) levels r
     unfolding children_of child_bytes
     pairs_members d u v f =
         rw c λ l j k m w w' st st'.

@@ -1,7 +1,7 @@
 // Document 01, module 2: plain equality, `equals_datatype` and `contains`, of types, fields and columns that have been read, where they
 // stand in two sheets. All three go over both trees side by side in one way: the heads, the code, the parameters, the children. Where they
 // differ, a `Comparison` says which is meant. The levels left fall from a type to its children; loops go over children.
-ghost use Rattle.std.specs.Prelude.{◌≡◌, List, ℕ, ◌<◌, ◌≤◌, length};
+ghost use Rattle.std.specs.Prelude.{◌≡◌, List, ℕ, ◌≤◌, length};
 ghost use Rattle.model.specs.Bytes.{Every, same, all, any};
 ghost use Rattle.model.specs.Tree.{Head, DataType, Field, Schema, layout};
 ghost use Rattle.model.specs.Tree.Children.{counted, counted_with_ids};
@@ -190,7 +190,7 @@ impl Comparer<'_> {
     // So many children one behind the other, each with the one at its position. A loop: a thousand take no more stack than one. The last decides,
     // and the place behind it is not looked for: so structs of one child inside one another are gone over once.
     #[cycle(comparing)]
-    pub fn compare_row(
+    fn compare_row(
         &self,
         a: usize,
         b: usize,

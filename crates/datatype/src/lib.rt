@@ -8,25 +8,21 @@ pub mod metadata;
 
 ghost use Rattle.std.specs.Prelude.{◌≡◌, List, map, ℕ, ◌≤◌, length, Bool};
 ghost use Rattle.model.specs.Numbers.{max_levels};
-ghost use Rattle.model.specs.Bytes.{Bytes, Every, same, flag, position};
+ghost use Rattle.model.specs.Bytes.{Bytes, Every, flag, position};
 ghost use Rattle.model.specs.Tree.{DataType, Field, Schema};
 ghost use Rattle.model.specs.Sheet.{each, field_bytes, type_bytes, sheet_bytes, column_bytes};
-ghost use Rattle.model.specs.Tree.Children.{counted};
-ghost use Rattle.model.specs.WellFormed.{LaidOut, Whole, Child, Fits};
+ghost use Rattle.model.specs.WellFormed.{LaidOut, Whole, Fits};
 ghost use Rattle.model.specs.Equal.{same_field, same_type};
 ghost use Rattle.model.specs.Datatype.{is_nested};
 ghost use Rattle.model.specs.Unions.{find_by_type_id, find_by_field};
 ghost use Rattle.model.specs.Call.{equal_call, equals_datatype_call, contains_call, acceptance, is_nested_call};
-ghost use Rattle.buffer.specs.Buffer.{pasted};
 ghost use Rattle.buffer.specs.Leaves.{leaves};
 ghost use Rattle.walk.specs.Stands.{Stands, member_bytes};
 ghost use Rattle.datatype.specs.Answers.{match_of, TestedBy};
-ghost use Rattle.datatype.specs.Comparisons.{compare_child, compare_schema, compare_call};
+ghost use Rattle.datatype.specs.Comparisons.{compare_call};
 
 use buffer::Refusal;
 use compare::{Comparer, Comparison};
-use layout::ChildrenKind;
-use metadata::{contains_metadata, of_sheet};
 use sheet::Cursor;
 use walk::Elements;
 
