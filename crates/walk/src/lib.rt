@@ -39,11 +39,18 @@ pub fn bit(map: usize, k: u32) -> bool
     map.unbounded_shr(k) % 2 == 1
 }
 
-// So many bytes on, at most to the end.
+// So many bytes on, at most to the end. By two tests and not by a minimum: a processor foresees a test, and each step would wait for the
+// minimum of the step before it.
 pub fn ahead(s: &[u8], at: usize, n: usize) -> usize
     ensures { (result ≤ length s.now) × (at + n ≤ length s.now → result ≡ at + n) }
 {
-    at.saturating_add(n).min(s.len())
+    if s.len() <= at {
+        return s.len();
+    }
+    if s.len() - at < n {
+        return s.len();
+    }
+    at + n
 }
 
 // So many elements, one behind the other from a place on.
