@@ -73,10 +73,10 @@ pub fn has_name(s: &[u8], at: usize, name: &[u8]) -> bool
         return false;
     }
     let from = walk::ahead(s, at, 1);
-    let Some(own) = s.get(from..from + name.len()) else {
+    if s.len() - from < name.len() {
         return false;
-    };
-    text::same(own, name)
+    }
+    text::same(&s[from..from + name.len()], name)
 }
 
 // `Metadata::get(key).is_some_and(|v| v == value)`, for the key and the value that stand at a place: the first pair with that key decides.

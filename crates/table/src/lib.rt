@@ -173,10 +173,10 @@ pub fn skip_row(w: &[u8], at: usize, levels: usize) -> usize
 pub fn next_entry(w: &[u8], at: usize, levels: usize) -> usize
     ensures { (l : ℕ) (s : Bytes) (k : ℕ) (y : Bytes) (f : Field l) → l ≤ levels → SpellField l s k y f → Skips w.now at y result }
 {
-    if let Some([0..=3, _, _, _, 0, _, _, _, ..]) = w.get(at..) {
-        return at + 8;
+    if w.len() <= at || w.len() - at < 8 || 4 <= w[at] || w[at + 4] != 0 {
+        return skip_entry(w, at, levels);
     }
-    skip_entry(w, at, levels)
+    at + 8
 }
 
 // Whether an entry stands at a place of the table and has a name, which is given as `name_of` gives one.
