@@ -57,216 +57,6 @@ impl Cursor {
     }
 }
 
-// Bytes as they stand: the place past them.
-fn read_raw(s: &[u8], lim: usize, at: usize, n: usize) -> Result<usize, Refusal>
-    ensures { numbered result ≡ step_of (read_item s.now lim n anything at) }
-{
-    if s.len() < at {
-        return Err(Refusal(Number::EndsInside, at));
-    }
-    if s.len() - at < n {
-        return Err(Refusal(Number::EndsInside, at));
-    }
-    if lim < at + n {
-        return Err(Refusal(Number::SheetTooLong, at));
-    }
-    Ok(at + n)
-}
-
-// One byte, and the place past it.
-fn read_byte(s: &[u8], lim: usize, at: usize) -> Result<(usize, usize), Refusal>
-    ensures { numbered result ≡ item_of (read_number s.now lim 1 anything at) }
-{
-    let next = read_raw(s, lim, at, 1)?;
-    Ok((usize::from(s[at]), next))
-}
-
-// A number of two bytes, the low byte first, and the place past it.
-fn read_u16(s: &[u8], lim: usize, at: usize) -> Result<(usize, usize), Refusal>
-    ensures { numbered result ≡ item_of (read_number s.now lim 2 anything at) }
-{
-    let next = read_raw(s, lim, at, 2)?;
-    let number = u16::from_le_bytes([s[at], s[at + 1]]);
-    Ok((usize::from(number), next))
-}
-
-// A parameter of one byte, at most `top`.
-fn read_param(s: &[u8], lim: usize, at: usize, top: usize) -> Result<usize, Refusal>
-    ensures { numbered result ≡ step_of (read_item s.now lim 1 (param_fits (1, top)) at) }
-{
-    let (v, next) = read_byte(s, lim, at)?;
-    if v <= top {
-        Ok(next)
-    } else {
-        Err(Refusal(Number::Malformed, at))
-    }
-}
-
-// A string's body.
-fn read_body(s: &[u8], lim: usize, at: usize, n: usize) -> Result<usize, Refusal>
-    ensures { numbered result ≡ step_of (read_item s.now lim n is_text at) }
-{
-    let raw = read_raw(s, lim, at, n);
-    let Ok(end) = raw else {
-        return raw;
-    };
-    let Ok(()) = text::check(&s[at..end]) else {
-        return Err(Refusal(Number::NotUtf8, at));
-    };
-    raw
-}
-
-// A string of at least so many bytes.
-fn read_text(s: &[u8], lim: usize, at: usize, least: usize) -> Result<usize, Refusal>
-    ensures { numbered result ≡ step_of (read_text s.now lim least at) }
-{
-    let (n, next) = read_u16(s, lim, at)?;
-    if n < least {
-        return Err(Refusal(Number::Malformed, at));
-    }
-    read_body(s, lim, next, n)
-}
-
-// A part that stands where a bit of a map is set.
-fn read_if<F: FnOnce(usize) -> Result<usize, Refusal>>(
-    set: bool,
-    at: usize,
-    read: F,
-) -> Result<usize, Refusal>
-    requires { F.pre read at }
-    ensures there { set ≡ true → F.post read at result }
-    ensures absent { set ≡ false → result ≡ Ok at }
-{
-    if set { read(at) } else { Ok(at) }
-}
-
-// A key, which has to be above the one before it, if there is one.
-fn read_key(s: &[u8], lim: usize, at: usize, previous: Option<&[u8]>) -> Result<usize, Refusal>
-    ensures { numbered result ≡ step_of (read_key s.now lim (option_copied previous.entry) at) }
-{
-    let read = read_text(s, lim, at, 0);
-    let Ok(end) = read else {
-        return read;
-    };
-    let Some(key) = previous else {
-        return read;
-    };
-    if text::is_below(key, &s[at + 2..end]) {
-        return read;
-    }
-    Err(Refusal(Number::KeyNotAbove, at))
-}
-
-// So many keys and values, the keys ascending.
-fn read_pairs(s: &[u8], lim: usize, at: usize, count: usize) -> Result<usize, Refusal>
-    ensures { numbered result ≡ step_of (read_many count (read_pair s.now lim) [] at) }
-{
-    let mut previous: Option<&[u8]> = None;
-    let mut place = at;
-    for _ in 0..count {
-        let keyed = read_key(s, lim, place, previous);
-        let Ok(value) = keyed else {
-            return keyed;
-        };
-        let valued = read_text(s, lim, value, 0);
-        let Ok(end) = valued else {
-            return valued;
-        };
-        previous = Some(&s[place + 2..value]);
-        place = end;
-    }
-    Ok(place)
-}
-
-// Metadata that is not empty.
-fn read_metadata(s: &[u8], lim: usize, at: usize) -> Result<usize, Refusal>
-    ensures { numbered result ≡ step_of (read_metadata s.now lim at) }
-{
-    let (count, first) = read_u16(s, lim, at)?;
-    if count < 1 {
-        return Err(Refusal(Number::Malformed, at));
-    }
-    read_pairs(s, lim, first, count)
-}
-
-// A dictionary number: "2 for a stored 0".
-fn read_dict_id(s: &[u8], lim: usize, at: usize) -> Result<usize, Refusal>
-    ensures { numbered result ≡ step_of (read_dict_id s.now lim at) }
-{
-    let raw = read_raw(s, lim, at, 8);
-    let Ok(end) = raw else {
-        return raw;
-    };
-    if text::word(s, at) == 0 {
-        return Err(Refusal(Number::Malformed, at));
-    }
-    Ok(end)
-}
-
-// A time zone, which may be the empty text.
-fn read_zone(s: &[u8], lim: usize, at: usize) -> Result<usize, Refusal>
-    ensures { numbered result ≡ step_of (read_zone s.now lim at) }
-{
-    let (n, next) = read_u16(s, lim, at)?;
-    read_body(s, lim, next, n)
-}
-
-// A time stamp's unit, map and zone.
-fn read_timestamp(s: &[u8], lim: usize, at: usize) -> Result<usize, Refusal>
-    ensures { numbered result ≡ step_of (read_params s.now lim timestamp at) }
-{
-    let unit = read_param(s, lim, at, 3);
-    let Ok(next) = unit else {
-        return unit;
-    };
-    let (map, zone) = read_byte(s, lim, next)?;
-    if 1 < map {
-        return Err(Refusal(Number::Malformed, next));
-    }
-    read_if(map % 2 == 1, zone, |at| read_zone(s, lim, at))
-}
-
-// Precision and scale: each byte is allowed.
-fn read_decimal(s: &[u8], lim: usize, at: usize) -> Result<usize, Refusal>
-    ensures { numbered result ≡ step_of (read_params s.now lim (params_of Decimal) at) }
-{
-    let precision = read_param(s, lim, at, 255);
-    let Ok(next) = precision else {
-        return precision;
-    };
-    read_param(s, lim, next, 255)
-}
-
-// The parameters of a type.
-fn read_params(s: &[u8], lim: usize, at: usize, code: usize) -> Result<usize, Refusal>
-    ensures { numbered result ≡ step_of (read_params s.now lim (layout code).params at) }
-{
-    match layout::params(code) {
-        ParamsKind::None => Ok(at),
-        ParamsKind::Timestamp => read_timestamp(s, lim, at),
-        ParamsKind::Unit => read_param(s, lim, at, 3),
-        ParamsKind::IntervalUnit => read_param(s, lim, at, 2),
-        ParamsKind::Int32 => read_raw(s, lim, at, 4),
-        ParamsKind::Flag => read_param(s, lim, at, 1),
-        ParamsKind::Decimal => read_decimal(s, lim, at),
-    }
-}
-
-// The rest of a field's head, behind its map: the name under bit 2, the metadata under bit 3, the dictionary number under bit 4.
-fn read_head(s: &[u8], lim: usize, at: usize, map: usize) -> Result<usize, Refusal>
-    ensures { numbered result ≡ step_of (read_head s.now lim map at) }
-{
-    let named = read_if(map / 4 % 2 == 1, at, |at| read_text(s, lim, at, 1));
-    let Ok(next) = named else {
-        return named;
-    };
-    let metadata = read_if(map / 8 % 2 == 1, next, |at| read_metadata(s, lim, at));
-    let Ok(end) = metadata else {
-        return metadata;
-    };
-    read_if(map / 16 % 2 == 1, end, |at| read_dict_id(s, lim, at))
-}
-
 // Whether a type of this code may stand under a field with the ordered bit, or without it.
 fn may_order(ordered: bool, code: usize) -> bool
     ensures { result ≡ (not ordered || eqb code Dictionary) }
@@ -277,180 +67,383 @@ fn may_order(ordered: bool, code: usize) -> bool
     true
 }
 
-// A union child's id, after those whose flag stands.
-fn read_id(s: &[u8], lim: usize, used: &[u8; 128], at: usize) -> Result<(usize, usize), Refusal>
-    ensures { numbered result ≡ item_of (read_id s.now lim used.now at) }
-{
-    let (id, next) = read_byte(s, lim, at)?;
-    if 127 < id {
-        return Err(Refusal(Number::IdTooLarge, at));
-    }
-    if used[id] == 1 {
-        return Err(Refusal(Number::IdRepeated, at));
-    }
-    Ok((id, next))
+// What is read, and the place behind the last byte that the sheet may have.
+#[derive(Clone, Copy)]
+struct Reader<'a> {
+    bytes: &'a [u8],
+    limit: usize,
 }
 
-// A field, with so many levels left for it and what it holds.
-#[cycle(reading)]
-fn read_field(s: &[u8], lim: usize, at: usize, levels: usize) -> Result<usize, Refusal>
-    ensures { numbered result ≡ step_of (read_field s.now lim levels (read_type s.now lim levels) 0 at) }
-{
-    let (map, next) = read_byte(s, lim, at)?;
-    if levels <= 0 {
-        return Err(Refusal(Number::TooDeep, at));
+impl<'a> Reader<'a> {
+    // Bytes as they stand: the place past them.
+    fn read_raw(&self, at: usize, n: usize) -> Result<usize, Refusal>
+        ensures { numbered result ≡ step_of (read_item self.now.bytes.now self.now.limit n anything at) }
+    {
+        if self.bytes.len() < at {
+            return Err(Refusal(Number::EndsInside, at));
+        }
+        if self.bytes.len() - at < n {
+            return Err(Refusal(Number::EndsInside, at));
+        }
+        if self.limit < at + n {
+            return Err(Refusal(Number::SheetTooLong, at));
+        }
+        Ok(at + n)
     }
-    if 31 < map {
-        return Err(Refusal(Number::Malformed, at));
-    }
-    let head = read_head(s, lim, next, map);
-    let Ok(body) = head else {
-        return head;
-    };
-    read_type(s, lim, body, map / 2 % 2 == 1, levels)
-}
 
-// A type, with so many levels left, itself among them; ordered where the field that holds it is.
-#[cycle(reading)]
-fn read_type(
-    s: &[u8],
-    lim: usize,
-    at: usize,
-    ordered: bool,
-    levels: usize,
-) -> Result<usize, Refusal>
-    ensures { numbered result ≡ step_of (read_type s.now lim levels ordered at) }
-{
-    let (code, next) = read_byte(s, lim, at)?;
-    if levels <= 0 {
-        return Err(Refusal(Number::TooDeep, at));
+    // One byte, and the place past it.
+    fn read_byte(&self, at: usize) -> Result<(usize, usize), Refusal>
+        ensures { numbered result ≡ item_of (read_number self.now.bytes.now self.now.limit 1 anything at) }
+    {
+        let next = self.read_raw(at, 1)?;
+        Ok((usize::from(self.bytes[at]), next))
     }
-    if layout::LAST_CODE < code {
-        return Err(Refusal(Number::Malformed, at));
-    }
-    if may_order(ordered, code) {
-        return read_shape(s, lim, next, code, levels - 1);
-    }
-    Err(Refusal(Number::Malformed, at))
-}
 
-// What follows a code, with so many levels left for the children.
-#[cycle(reading)]
-fn read_shape(s: &[u8], lim: usize, at: usize, code: usize, levels: usize) -> Result<usize, Refusal>
-    ensures { numbered result ≡ step_of (read_shape s.now lim levels code at) }
-{
-    let read = read_params(s, lim, at, code);
-    let Ok(next) = read else {
-        return read;
-    };
-    read_children(s, lim, next, code, levels)
-}
-
-// The children of a type.
-#[cycle(reading)]
-fn read_children(
-    s: &[u8],
-    lim: usize,
-    at: usize,
-    code: usize,
-    levels: usize,
-) -> Result<usize, Refusal>
-    ensures { numbered result ≡ step_of (read_children s.now lim levels (read_type s.now lim levels) (layout code).children at) }
-{
-    match layout::children(code) {
-        ChildrenKind::Fields(count) => read_fields(s, lim, at, count, levels),
-        ChildrenKind::KeyAndValue => read_dictionary(s, lim, at, levels),
-        ChildrenKind::Counted => read_struct(s, lim, at, levels),
-        ChildrenKind::CountedWithIds => read_union(s, lim, at, levels),
+    // A number of two bytes, the low byte first, and the place past it.
+    fn read_u16(&self, at: usize) -> Result<(usize, usize), Refusal>
+        ensures { numbered result ≡ item_of (read_number self.now.bytes.now self.now.limit 2 anything at) }
+    {
+        let next = self.read_raw(at, 2)?;
+        let number = u16::from_le_bytes([self.bytes[at], self.bytes[at + 1]]);
+        Ok((usize::from(number), next))
     }
-}
 
-// So many fields, one after the other.
-#[cycle(reading)]
-fn read_fields(
-    s: &[u8],
-    lim: usize,
-    at: usize,
-    count: usize,
-    levels: usize,
-) -> Result<usize, Refusal>
-    ensures { numbered result ≡ step_of (read_many count (λ seen. read_field s.now lim levels (read_type s.now lim levels) 0) [] at) }
-{
-    let mut place = at;
-    for _ in 0..count {
-        let got = read_field(s, lim, place, levels);
-        let Ok(next) = got else {
-            return got;
+    // A parameter of one byte, at most `top`.
+    fn read_param(&self, at: usize, top: usize) -> Result<usize, Refusal>
+        ensures { numbered result ≡ step_of (read_item self.now.bytes.now self.now.limit 1 (param_fits (1, top)) at) }
+    {
+        let (v, next) = self.read_byte(at)?;
+        if v <= top {
+            Ok(next)
+        } else {
+            Err(Refusal(Number::Malformed, at))
+        }
+    }
+
+    // A string's body.
+    fn read_body(&self, at: usize, n: usize) -> Result<usize, Refusal>
+        ensures { numbered result ≡ step_of (read_item self.now.bytes.now self.now.limit n is_text at) }
+    {
+        let raw = self.read_raw(at, n);
+        let Ok(end) = raw else {
+            return raw;
         };
-        place = next;
-    }
-    Ok(place)
-}
-
-// A dictionary's key type, then its value type.
-#[cycle(reading)]
-fn read_dictionary(s: &[u8], lim: usize, at: usize, levels: usize) -> Result<usize, Refusal>
-    ensures { numbered result ≡ step_of (read_children s.now lim levels (read_type s.now lim levels) key_and_value at) }
-{
-    let key = read_type(s, lim, at, false, levels);
-    let Ok(next) = key else {
-        return key;
-    };
-    read_type(s, lim, next, false, levels)
-}
-
-// A struct's count and its fields.
-#[cycle(reading)]
-fn read_struct(s: &[u8], lim: usize, at: usize, levels: usize) -> Result<usize, Refusal>
-    ensures { numbered result ≡ step_of (read_children s.now lim levels (read_type s.now lim levels) counted at) }
-{
-    let (count, first) = read_u16(s, lim, at)?;
-    read_fields(s, lim, first, count, levels)
-}
-
-// A union's count and its children.
-#[cycle(reading)]
-fn read_union(s: &[u8], lim: usize, at: usize, levels: usize) -> Result<usize, Refusal>
-    ensures { numbered result ≡ step_of (read_children s.now lim levels (read_type s.now lim levels) counted_with_ids at) }
-{
-    let (count, first) = read_u16(s, lim, at)?;
-    read_members(s, lim, first, count, levels)
-}
-
-// So many union children, each an id and a field.
-#[cycle(reading)]
-fn read_members(
-    s: &[u8],
-    lim: usize,
-    at: usize,
-    count: usize,
-    levels: usize,
-) -> Result<usize, Refusal>
-    ensures { numbered result ≡ step_of (read_many count (read_union_child s.now lim levels (read_type s.now lim levels)) [] at) }
-{
-    let mut used = [0u8; 128];
-    let mut place = at;
-    for _ in 0..count {
-        let (id, body) = read_id(s, lim, &used, place)?;
-        let got = read_field(s, lim, body, levels);
-        let Ok(next) = got else {
-            return got;
+        let Ok(()) = text::check(&self.bytes[at..end]) else {
+            return Err(Refusal(Number::NotUtf8, at));
         };
-        used[id] = 1;
-        place = next;
+        raw
     }
-    Ok(place)
-}
 
-// The columns of a sheet that has some.
-fn read_columns(s: &[u8], lim: usize, at: usize) -> Result<usize, Refusal>
-    ensures { numbered result ≡ step_of (read_list s.now lim 1 (λ seen. read_column s.now lim) at) }
-{
-    let (count, first) = read_u16(s, lim, at)?;
-    if count < 1 {
-        return Err(Refusal(Number::Malformed, at));
+    // A string of at least so many bytes.
+    fn read_text(&self, at: usize, least: usize) -> Result<usize, Refusal>
+        ensures { numbered result ≡ step_of (read_text self.now.bytes.now self.now.limit least at) }
+    {
+        let (n, next) = self.read_u16(at)?;
+        if n < least {
+            return Err(Refusal(Number::Malformed, at));
+        }
+        self.read_body(next, n)
     }
-    read_fields(s, lim, first, count, Cursor::LEVELS)
+
+    // A name that is not empty.
+    fn read_name(&self, at: usize) -> Result<usize, Refusal>
+        ensures { numbered result ≡ step_of (read_text self.now.bytes.now self.now.limit 1 at) }
+    {
+        self.read_text(at, 1)
+    }
+
+    // A part that stands where a bit of a map is set.
+    fn read_if<F: FnOnce(&Reader<'a>, usize) -> Result<usize, Refusal>>(
+        &self,
+        at: usize,
+        set: bool,
+        read: F,
+    ) -> Result<usize, Refusal>
+        requires { F.IsAlwaysCallable read }
+        ensures there { set ≡ true → F.post read self.entry at result }
+        ensures absent { set ≡ false → result ≡ Ok at }
+    {
+        if set { read(self, at) } else { Ok(at) }
+    }
+
+    // A key, which has to be above the one before it, if there is one.
+    fn read_key(&self, at: usize, previous: Option<&[u8]>) -> Result<usize, Refusal>
+        ensures { numbered result ≡ step_of (read_key self.now.bytes.now self.now.limit (option_copied previous.entry) at) }
+    {
+        let read = self.read_text(at, 0);
+        let Ok(end) = read else {
+            return read;
+        };
+        let Some(key) = previous else {
+            return read;
+        };
+        if text::is_below(key, &self.bytes[at + 2..end]) {
+            return read;
+        }
+        Err(Refusal(Number::KeyNotAbove, at))
+    }
+
+    // So many keys and values, the keys ascending.
+    fn read_pairs(&self, at: usize, count: usize) -> Result<usize, Refusal>
+        ensures { numbered result ≡ step_of (read_many count (read_pair self.now.bytes.now self.now.limit) [] at) }
+    {
+        let mut previous: Option<&[u8]> = None;
+        let mut place = at;
+        for _ in 0..count {
+            let keyed = self.read_key(place, previous);
+            let Ok(value) = keyed else {
+                return keyed;
+            };
+            let valued = self.read_text(value, 0);
+            let Ok(end) = valued else {
+                return valued;
+            };
+            previous = Some(&self.bytes[place + 2..value]);
+            place = end;
+        }
+        Ok(place)
+    }
+
+    // Metadata that is not empty.
+    fn read_metadata(&self, at: usize) -> Result<usize, Refusal>
+        ensures { numbered result ≡ step_of (read_metadata self.now.bytes.now self.now.limit at) }
+    {
+        let (count, first) = self.read_u16(at)?;
+        if count < 1 {
+            return Err(Refusal(Number::Malformed, at));
+        }
+        self.read_pairs(first, count)
+    }
+
+    // A dictionary number: "2 for a stored 0".
+    fn read_dict_id(&self, at: usize) -> Result<usize, Refusal>
+        ensures { numbered result ≡ step_of (read_dict_id self.now.bytes.now self.now.limit at) }
+    {
+        let raw = self.read_raw(at, 8);
+        let Ok(end) = raw else {
+            return raw;
+        };
+        if text::word(self.bytes, at) == 0 {
+            return Err(Refusal(Number::Malformed, at));
+        }
+        Ok(end)
+    }
+
+    // A time zone, which may be the empty text.
+    fn read_zone(&self, at: usize) -> Result<usize, Refusal>
+        ensures { numbered result ≡ step_of (read_zone self.now.bytes.now self.now.limit at) }
+    {
+        let (n, next) = self.read_u16(at)?;
+        self.read_body(next, n)
+    }
+
+    // A time stamp's unit, map and zone.
+    fn read_timestamp(&self, at: usize) -> Result<usize, Refusal>
+        ensures { numbered result ≡ step_of (read_params self.now.bytes.now self.now.limit timestamp at) }
+    {
+        let unit = self.read_param(at, 3);
+        let Ok(next) = unit else {
+            return unit;
+        };
+        let (map, zone) = self.read_byte(next)?;
+        if 1 < map {
+            return Err(Refusal(Number::Malformed, next));
+        }
+        self.read_if(zone, map % 2 == 1, Self::read_zone)
+    }
+
+    // Precision and scale: each byte is allowed.
+    fn read_decimal(&self, at: usize) -> Result<usize, Refusal>
+        ensures { numbered result ≡ step_of (read_params self.now.bytes.now self.now.limit (params_of Decimal) at) }
+    {
+        let precision = self.read_param(at, 255);
+        let Ok(next) = precision else {
+            return precision;
+        };
+        self.read_param(next, 255)
+    }
+
+    // The parameters of a type.
+    fn read_params(&self, at: usize, code: usize) -> Result<usize, Refusal>
+        ensures { numbered result ≡ step_of (read_params self.now.bytes.now self.now.limit (layout code).params at) }
+    {
+        match layout::params(code) {
+            ParamsKind::None => Ok(at),
+            ParamsKind::Timestamp => self.read_timestamp(at),
+            ParamsKind::Unit => self.read_param(at, 3),
+            ParamsKind::IntervalUnit => self.read_param(at, 2),
+            ParamsKind::Int32 => self.read_raw(at, 4),
+            ParamsKind::Flag => self.read_param(at, 1),
+            ParamsKind::Decimal => self.read_decimal(at),
+        }
+    }
+
+    // The rest of a field's head, behind its map: the name under bit 2, the metadata under bit 3, the dictionary number under bit 4.
+    fn read_head(&self, at: usize, map: usize) -> Result<usize, Refusal>
+        ensures { numbered result ≡ step_of (read_head self.now.bytes.now self.now.limit map at) }
+    {
+        let named = self.read_if(at, map / 4 % 2 == 1, Self::read_name);
+        let Ok(next) = named else {
+            return named;
+        };
+        let metadata = self.read_if(next, map / 8 % 2 == 1, Self::read_metadata);
+        let Ok(end) = metadata else {
+            return metadata;
+        };
+        self.read_if(end, map / 16 % 2 == 1, Self::read_dict_id)
+    }
+
+    // A union child's id, after those whose flag stands.
+    fn read_id(&self, used: &[u8; 128], at: usize) -> Result<(usize, usize), Refusal>
+        ensures { numbered result ≡ item_of (read_id self.now.bytes.now self.now.limit used.now at) }
+    {
+        let (id, next) = self.read_byte(at)?;
+        if 127 < id {
+            return Err(Refusal(Number::IdTooLarge, at));
+        }
+        if used[id] == 1 {
+            return Err(Refusal(Number::IdRepeated, at));
+        }
+        Ok((id, next))
+    }
+
+    // A field, with so many levels left for it and what it holds.
+    #[cycle(reading)]
+    fn read_field(&self, at: usize, levels: usize) -> Result<usize, Refusal>
+        ensures { numbered result ≡ step_of (read_field self.now.bytes.now self.now.limit levels (read_type self.now.bytes.now self.now.limit levels) 0 at) }
+    {
+        let (map, next) = self.read_byte(at)?;
+        if levels <= 0 {
+            return Err(Refusal(Number::TooDeep, at));
+        }
+        if 31 < map {
+            return Err(Refusal(Number::Malformed, at));
+        }
+        let head = self.read_head(next, map);
+        let Ok(body) = head else {
+            return head;
+        };
+        self.read_type(body, map / 2 % 2 == 1, levels)
+    }
+
+    // A type, with so many levels left, itself among them; ordered where the field that holds it is.
+    #[cycle(reading)]
+    fn read_type(&self, at: usize, ordered: bool, levels: usize) -> Result<usize, Refusal>
+        ensures { numbered result ≡ step_of (read_type self.now.bytes.now self.now.limit levels ordered at) }
+    {
+        let (code, next) = self.read_byte(at)?;
+        if levels <= 0 {
+            return Err(Refusal(Number::TooDeep, at));
+        }
+        if layout::LAST_CODE < code {
+            return Err(Refusal(Number::Malformed, at));
+        }
+        if may_order(ordered, code) {
+            return self.read_shape(next, code, levels - 1);
+        }
+        Err(Refusal(Number::Malformed, at))
+    }
+
+    // What follows a code, with so many levels left for the children.
+    #[cycle(reading)]
+    fn read_shape(&self, at: usize, code: usize, levels: usize) -> Result<usize, Refusal>
+        ensures { numbered result ≡ step_of (read_shape self.now.bytes.now self.now.limit levels code at) }
+    {
+        let read = self.read_params(at, code);
+        let Ok(next) = read else {
+            return read;
+        };
+        self.read_children(next, code, levels)
+    }
+
+    // The children of a type.
+    #[cycle(reading)]
+    fn read_children(&self, at: usize, code: usize, levels: usize) -> Result<usize, Refusal>
+        ensures { numbered result ≡ step_of (read_children self.now.bytes.now self.now.limit levels (read_type self.now.bytes.now self.now.limit levels) (layout code).children at) }
+    {
+        match layout::children(code) {
+            ChildrenKind::Fields(count) => self.read_fields(at, count, levels),
+            ChildrenKind::KeyAndValue => self.read_dictionary(at, levels),
+            ChildrenKind::Counted => self.read_struct(at, levels),
+            ChildrenKind::CountedWithIds => self.read_union(at, levels),
+        }
+    }
+
+    // So many fields, one after the other.
+    #[cycle(reading)]
+    fn read_fields(&self, at: usize, count: usize, levels: usize) -> Result<usize, Refusal>
+        ensures { numbered result ≡ step_of (read_many count (λ seen. read_field self.now.bytes.now self.now.limit levels (read_type self.now.bytes.now self.now.limit levels) 0) [] at) }
+    {
+        let mut place = at;
+        for _ in 0..count {
+            let got = self.read_field(place, levels);
+            let Ok(next) = got else {
+                return got;
+            };
+            place = next;
+        }
+        Ok(place)
+    }
+
+    // A dictionary's key type, then its value type.
+    #[cycle(reading)]
+    fn read_dictionary(&self, at: usize, levels: usize) -> Result<usize, Refusal>
+        ensures { numbered result ≡ step_of (read_children self.now.bytes.now self.now.limit levels (read_type self.now.bytes.now self.now.limit levels) key_and_value at) }
+    {
+        let key = self.read_type(at, false, levels);
+        let Ok(next) = key else {
+            return key;
+        };
+        self.read_type(next, false, levels)
+    }
+
+    // A struct's count and its fields.
+    #[cycle(reading)]
+    fn read_struct(&self, at: usize, levels: usize) -> Result<usize, Refusal>
+        ensures { numbered result ≡ step_of (read_children self.now.bytes.now self.now.limit levels (read_type self.now.bytes.now self.now.limit levels) counted at) }
+    {
+        let (count, first) = self.read_u16(at)?;
+        self.read_fields(first, count, levels)
+    }
+
+    // A union's count and its children.
+    #[cycle(reading)]
+    fn read_union(&self, at: usize, levels: usize) -> Result<usize, Refusal>
+        ensures { numbered result ≡ step_of (read_children self.now.bytes.now self.now.limit levels (read_type self.now.bytes.now self.now.limit levels) counted_with_ids at) }
+    {
+        let (count, first) = self.read_u16(at)?;
+        self.read_members(first, count, levels)
+    }
+
+    // So many union children, each an id and a field.
+    #[cycle(reading)]
+    fn read_members(&self, at: usize, count: usize, levels: usize) -> Result<usize, Refusal>
+        ensures { numbered result ≡ step_of (read_many count (read_union_child self.now.bytes.now self.now.limit levels (read_type self.now.bytes.now self.now.limit levels)) [] at) }
+    {
+        let mut used = [0u8; 128];
+        let mut place = at;
+        for _ in 0..count {
+            let (id, body) = self.read_id(&used, place)?;
+            let got = self.read_field(body, levels);
+            let Ok(next) = got else {
+                return got;
+            };
+            used[id] = 1;
+            place = next;
+        }
+        Ok(place)
+    }
+
+    // The columns of a sheet that has some.
+    fn read_columns(&self, at: usize) -> Result<usize, Refusal>
+        ensures { numbered result ≡ step_of (read_list self.now.bytes.now self.now.limit 1 (λ seen. read_column self.now.bytes.now self.now.limit) at) }
+    {
+        let (count, first) = self.read_u16(at)?;
+        if count < 1 {
+            return Err(Refusal(Number::Malformed, at));
+        }
+        self.read_fields(first, count, Cursor::LEVELS)
+    }
 }
 
 // A sheet, from a cursor at its first byte on: of its map bit 0 is for the metadata, and bit 1 for the columns.
@@ -458,16 +451,19 @@ pub fn read_schema(s: &[u8], c: Cursor) -> Result<usize, Refusal>
     ensures { numbered result ≡ step_of (read_schema s.now c.limit c.at) }
 {
     let at = c.at;
-    let lim = c.limit;
-    let (map, next) = read_byte(s, lim, at)?;
+    let reader = Reader {
+        bytes: s,
+        limit: c.limit,
+    };
+    let (map, next) = reader.read_byte(at)?;
     if 3 < map {
         return Err(Refusal(Number::Malformed, at));
     }
-    let metadata = read_if(map % 2 == 1, next, |at| read_metadata(s, lim, at));
+    let metadata = reader.read_if(next, map % 2 == 1, Reader::read_metadata);
     let Ok(columns) = metadata else {
         return metadata;
     };
-    read_if(map / 2 % 2 == 1, columns, |at| read_columns(s, lim, at))
+    reader.read_if(columns, map / 2 % 2 == 1, Reader::read_columns)
 }
 
 // A single sheet, and nothing behind it.

@@ -1,0 +1,127 @@
+use Prim.Native.Nat.{◌+◌, ◌-◌}
+use Rattle.sheet.proofs.Ways.{ways, told_ok, told_err, item_stop, number_stop, item_then, judge_lt_then, judge_le_then, judge_true, judge_false}
+use Rattle.sheet.proofs.TreeWays.{field_way, type_way, children_way, fields_way, dictionary_way, many_done, many_stop, many_again}
+use Rattle.sheet.proofs.Members.{members_begin, members_done, members_id_stop, members_field_stop, members_again, id_small}
+use native.Mathlib.Omega.{arith}
+use mathlib.Core.Path.{◌≡◌, refl}
+use Rattle.model.specs.Bytes.{bit}
+use Rattle.model.specs.Read.{read_children, read_list}
+use Rattle.layout.specs.Kinds.{children_of}
+use Rattle.sheet.specs.Shapes.{read_shape, no_ids}
+use Rattle.sheet.proofs.Reader.+reading.Goals as goal
+
+pub read_children-returns-in-Fields : goal.read_children-returns-in-Fields
+unfolding children_of
+read_children-returns-in-Fields t c = children_way _ _ _ _ _ _ _ c.in-Fields.ensures (fields_way _ _ _ _ _ _ c.read_fields.ensures)
+
+pub read_children-returns-in-KeyAndValue : goal.read_children-returns-in-KeyAndValue
+unfolding children_of
+read_children-returns-in-KeyAndValue t c = children_way _ _ _ _ _ _ _ c.in-KeyAndValue.ensures c.read_dictionary.ensures
+
+pub read_children-returns-in-Counted : goal.read_children-returns-in-Counted
+unfolding children_of
+read_children-returns-in-Counted t c = children_way _ _ _ _ _ _ _ c.in-Counted.ensures c.read_struct.ensures
+
+pub read_children-returns-in-CountedWithIds : goal.read_children-returns-in-CountedWithIds
+unfolding children_of
+read_children-returns-in-CountedWithIds t c = children_way _ _ _ _ _ _ _ c.in-CountedWithIds.ensures c.read_union.ensures
+
+pub read_dictionary-returns-in_default : goal.read_dictionary-returns-in_default
+read_dictionary-returns-in_default t c = search (dictionary_way, ways) depth 8
+
+pub read_dictionary-returns : goal.read_dictionary-returns
+read_dictionary-returns t c = search (dictionary_way, ways) depth 8
+
+pub read_field-returns-in_err-map : goal.read_field-returns-in_err-map
+unfolding bit
+read_field-returns-in_err-map t c = field_way _ _ _ _ _ (number_stop _ _ _ _ _ _ _ _ c.read_byte.ensures c.in_err-map.was c.from_residual.ensures.1)
+
+pub read_field-returns-then-levels-le0 : goal.read_field-returns-then-levels-le0
+unfolding bit
+read_field-returns-then-levels-le0 t c = search (field_way, ways, c.in_ok-map.was) depth 12
+
+pub read_field-returns-then-map-gt31 : goal.read_field-returns-then-map-gt31
+unfolding bit
+read_field-returns-then-map-gt31 t c = search (field_way, ways, c.in_ok-map.was) depth 12
+
+pub read_field-returns-in_default : goal.read_field-returns-in_default
+unfolding bit
+read_field-returns-in_default t c = search (field_way, ways, c.in_ok-map.was) depth 12
+
+pub read_field-returns : goal.read_field-returns
+unfolding bit
+read_field-returns t c = search (field_way, ways, c.in_ok-map.was) depth 12
+
+pub read_fields-loop-init : goal.read_fields-loop-init
+read_fields-loop-init t c = let z : c.args.count - 0 ≡ c.args.count = omega arith in rw z refl
+
+pub read_fields-returns-in_default : goal.read_fields-returns-in_default
+read_fields-returns-in_default t c = many_stop _ _ _ _ c.loop.invariant (omega (arith, c.loop-test.true)) _ c.read_field-got.ensures _ _ (told_err c.in_default.is)
+
+pub read_fields-loop-preserved : goal.read_fields-loop-preserved
+read_fields-loop-preserved t c =
+    let z : c.args.count - (c.loop.counter + 1) ≡ c.args.count - c.loop.counter - 1 = omega arith in
+    rw z (many_again _ _ _ _ c.loop.invariant (omega (arith, c.loop-test.true)) _ c.read_field-got.ensures _ (told_ok c.in-Ok.is))
+
+pub read_fields-returns : goal.read_fields-returns
+read_fields-returns t c = many_done _ _ _ _ c.loop.invariant (omega (arith, c.loop-test.false))
+
+pub read_members-loop-init : goal.read_members-loop-init
+unfolding no_ids
+read_members-loop-init t c = let z : c.args.count - 0 ≡ c.args.count = omega arith in rw z (members_begin _ _ _ _ _)
+
+pub read_members-returns-in_err-id : goal.read_members-returns-in_err-id
+read_members-returns-in_err-id t c = members_id_stop _ _ _ _ _ _ _ c.loop.invariant (omega (arith, c.loop-test.true)) _ c.read_id.ensures _ _ c.in_err-id.was c.from_residual.ensures.1
+
+pub read_members-returns-in_default : goal.read_members-returns-in_default
+read_members-returns-in_default t c = members_field_stop _ _ _ _ _ _ _ c.loop.invariant (omega (arith, c.loop-test.true)) _ c.read_id.ensures _ _ c.in_ok-id.was _ c.read_field-got.ensures _ _ (told_err c.in_default.is)
+
+pub read_members-bounds-used-id : goal.read_members-bounds-used-id
+read_members-bounds-used-id t c = id_small _ _ _ _ _ _ _ c.read_id.ensures c.in_ok-id.was
+
+pub read_members-loop-preserved : goal.read_members-loop-preserved
+read_members-loop-preserved t c =
+    let z : c.args.count - (c.loop.counter + 1) ≡ c.args.count - c.loop.counter - 1 = omega arith in
+    rw z (members_again _ _ _ _ _ _ _ c.loop.invariant (omega (arith, c.loop-test.true)) _ c.read_id.ensures _ _ c.in_ok-id.was _ c.read_field-got.ensures _ (told_ok c.in-Ok.is))
+
+pub read_members-returns : goal.read_members-returns
+read_members-returns t c = members_done _ _ _ _ _ _ _ c.loop.invariant (omega (arith, c.loop-test.false))
+
+pub read_shape-returns-in_default : goal.read_shape-returns-in_default
+unfolding read_shape
+read_shape-returns-in_default t c = search ways depth 8
+
+pub read_shape-returns : goal.read_shape-returns
+unfolding read_shape
+read_shape-returns t c = search ways depth 8
+
+pub read_struct-returns-in_err-count : goal.read_struct-returns-in_err-count
+unfolding read_children read_list
+read_struct-returns-in_err-count t c = number_stop _ _ _ _ _ _ _ _ c.read_u16.ensures c.in_err-count.was c.from_residual.ensures.1
+
+pub read_struct-returns : goal.read_struct-returns
+unfolding read_children read_list
+read_struct-returns t c = search (ways, c.in_ok-count.was) depth 8
+
+pub read_type-returns-then-may_order : goal.read_type-returns-then-may_order
+read_type-returns-then-may_order t c = type_way _ _ _ _ _ _ (item_then _ _ _ _ _ _ c.read_byte.ensures (told_ok c.in_ok-code.was) (judge_lt_then _ _ _ _ _ _ _ _ _ c.if-levels-le0.false (judge_le_then _ _ _ _ _ _ _ _ _ c.if-code-gt-LAST_CODE.false (judge_true _ _ _ _ _ _ _ _ c.may_order.ensures c.if-may_order.true c.read_shape.ensures))))
+
+pub read_type-returns : goal.read_type-returns
+read_type-returns t c = type_way _ _ _ _ _ _ (item_then _ _ _ _ _ _ c.read_byte.ensures (told_ok c.in_ok-code.was) (judge_lt_then _ _ _ _ _ _ _ _ _ c.if-levels-le0.false (judge_le_then _ _ _ _ _ _ _ _ _ c.if-code-gt-LAST_CODE.false (judge_false _ _ _ _ _ _ _ _ refl c.may_order.ensures c.if-may_order.false refl))))
+
+pub read_type-returns-in_err-code : goal.read_type-returns-in_err-code
+read_type-returns-in_err-code t c = type_way _ _ _ _ _ _ (item_stop _ _ _ _ c.read_byte.ensures c.in_err-code.was c.from_residual.ensures.1)
+
+pub read_type-returns-then-levels-le0 : goal.read_type-returns-then-levels-le0
+read_type-returns-then-levels-le0 t c = search (type_way, ways, c.in_ok-code.was) depth 12
+
+pub read_type-returns-then-code-gt-LAST_CODE : goal.read_type-returns-then-code-gt-LAST_CODE
+read_type-returns-then-code-gt-LAST_CODE t c = search (type_way, ways, c.in_ok-code.was) depth 12
+
+pub read_union-returns-in_err-count : goal.read_union-returns-in_err-count
+unfolding read_children read_list
+read_union-returns-in_err-count t c = number_stop _ _ _ _ _ _ _ _ c.read_u16.ensures c.in_err-count.was c.from_residual.ensures.1
+
+pub read_union-returns : goal.read_union-returns
+unfolding read_children read_list
+read_union-returns t c = search (ways, c.in_ok-count.was) depth 8
