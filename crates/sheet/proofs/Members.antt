@@ -7,7 +7,7 @@ use mathlib.Core.Bool.{Bool, true, false, not, ◌||◌}
 use lib.ListN.{length, get_or, set, length-set, get_or-replicate, length-replicate}
 use lib.Seq.{get_or-set_same, get_or-set_other}
 use lib.Dec.{eqb, leb}
-use borrow.Author.Tests.{eq-eqb, ne_eqb, eqb-true, eqb-false, leb-true, le-leb, lt-leb}
+use borrow.Author.Tests.{eqb-true, eqb-false, leb-true, le-leb, lt-leb}
 use Rattle.model.specs.Bytes.{Bytes, among, bit}
 use Rattle.model.specs.Tree.{Field, DataType}
 use Rattle.model.specs.Read as read
@@ -23,22 +23,22 @@ use Rattle.sheet.proofs.Ways.{told_ok, told_err, passed_on, item_is, item_no, st
 use Rattle.sheet.proofs.TreeWays.{field_any}
 
 -- the flags stand for the ids seen
-pub record Flags (used ids : List ℕ) : Type 0 where
+pub record Flags (used : List Bool) (ids : List ℕ) : Type 0 where
   pub size : length used ≡ 128
-  pub flag : (i : ℕ) → i ≤ 127 → eqb (get_or used i 0) 1 ≡ among i ids
+  pub flag : (i : ℕ) → i ≤ 127 → get_or used i false ≡ among i ids
 
 flags_none : Flags no_ids []
 unfolding no_ids among
-flags_none = record { size = length-replicate {A = ℕ} 128 0; flag = λ i h. ap (λ v. eqb v 1) (get_or-replicate 128 i 0 0 (omega (arith, h))) }
+flags_none = record { size = length-replicate {A = Bool} 128 false; flag = λ i h. get_or-replicate 128 i false false (omega (arith, h)) }
 
-flags_more : (used ids : List ℕ) (i : ℕ) → Flags used ids → i ≤ 127 → Flags (set used i 1) (i ∷ ids)
+flags_more : (used : List Bool) (ids : List ℕ) (i : ℕ) → Flags used ids → i ≤ 127 → Flags (set used i true) (i ∷ ids)
 unfolding among
-flags_more used ids i h k = record { size = length-set used i 1 ∙ h.size; flag = λ j w. go j w (eqb j i) refl }
+flags_more used ids i h k = record { size = length-set used i true ∙ h.size; flag = λ j w. go j w (eqb j i) refl }
   where
-    go : (j : ℕ) → j ≤ 127 → (t : Bool) → eqb j i ≡ t → eqb (get_or (set used i 1) j 0) 1 ≡ (eqb j i || among j ids)
+    go : (j : ℕ) → j ≤ 127 → (t : Bool) → eqb j i ≡ t → get_or (set used i true) j false ≡ (eqb j i || among j ids)
     go j w true q =
-        ap (λ n. eqb (get_or (set used i 1) n 0) 1) (eqb-true j i q) ∙ ap (λ v. eqb v 1) (get_or-set_same used i 1 0 (omega (arith, k, h.size))) ∙ ap (λ t. t || among j ids) (sym q)
-    go j w false q = ap (λ v. eqb v 1) (get_or-set_other used i j 1 0 (eqb-false j i q)) ∙ h.flag j w ∙ ap (λ t. t || among j ids) (sym q)
+        ap (λ n. get_or (set used i true) n false) (eqb-true j i q) ∙ get_or-set_same used i true false (omega (arith, k, h.size)) ∙ ap (λ t. t || among j ids) (sym q)
+    go j w false q = get_or-set_other used i j true false (eqb-false j i q) ∙ h.flag j w ∙ ap (λ t. t || among j ids) (sym q)
 
 -- a field read with an id has it
 field_id : (s : Bytes) (lim l : ℕ) (rt : Bool → Reader (DataType l)) (i at : ℕ) → Holds (λ f e. f.head.type_id ≡ i) (read_field s lim l rt i at)
@@ -76,17 +76,17 @@ ids l seen = map (λ f. f.head.type_id) seen
 
 module _ (s : Bytes) (lim l : ℕ) where
   -- one id: the same verdict, and then the same reading
-  id_alike : {B C : Type 0} (used : List ℕ) (seen : List (Field l)) → Flags used (ids l seen) → (at i e : ℕ) (f : ℕ → ℕ → read.Step B) (h : ℕ → ℕ → read.Step C)
+  id_alike : {B C : Type 0} (used : List Bool) (seen : List (Field l)) → Flags used (ids l seen) → (at i e : ℕ) (f : ℕ → ℕ → read.Step B) (h : ℕ → ℕ → read.Step C)
       → (i ≤ 127 → step_of (f i e) ≡ step_of (h i e))
-      → step_of (next (judged (unless (leb i 127) 6 then unless (not (eqb (get_or used i 0) 1)) 7) at i e) f) ≡ step_of (next (judged (id_fits (ids l seen) i) at i e) h)
+      → step_of (next (judged (unless (leb i 127) 6 then unless (not (get_or used i false)) 7) at i e) f) ≡ step_of (next (judged (id_fits (ids l seen) i) at i e) h)
   unfolding unless ◌then◌ next judged
   id_alike used seen w at i e f h k = go (leb i 127) refl
     where
-      go : (t : Bool) → leb i 127 ≡ t → step_of (next (judged (unless t 6 then unless (not (eqb (get_or used i 0) 1)) 7) at i e) f) ≡ step_of (next (judged (unless t 6 then unless (not (among i (ids l seen))) 7) at i e) h)
+      go : (t : Bool) → leb i 127 ≡ t → step_of (next (judged (unless t 6 then unless (not (get_or used i false)) 7) at i e) f) ≡ step_of (next (judged (unless t 6 then unless (not (among i (ids l seen))) 7) at i e) h)
       go true q = judged_alike _ _ at i e f h (ap (λ t. unless (not t) 7) (w.flag i (leb-true i 127 q))) (k (leb-true i 127 q))
       go false q = refl
 
-  members_law : (n : ℕ) (used : List ℕ) (seen : List (Field l)) → Flags used (ids l seen) → (at : ℕ)
+  members_law : (n : ℕ) (used : List Bool) (seen : List (Field l)) → Flags used (ids l seen) → (at : ℕ)
       → step_of (read_members s lim l used n at) ≡ step_of (read_many n (read_union_child s lim l (read_type s lim l)) seen at)
   unfolding read_members read_many read_id read_union_child
   members_law zero used seen w at = refl
@@ -94,7 +94,7 @@ module _ (s : Bytes) (lim l : ℕ) where
       ap step_of (next_next (read_number s lim 1 anything at) _ _)
       ∙ next_alike (read_number s lim 1 anything at) _ _ (λ i e. id_alike used seen w at i e _ _ (λ k.
       next_alike_if (read_field s lim l (read_type s lim l) i e) _ _ (field_id s lim l (read_type s lim l) i e) (λ f m q.
-      members_law n (set used i 1) (f ∷ seen) (subst (λ j. Flags (set used i 1) (j ∷ ids l seen)) (sym q) (flags_more used (ids l seen) i w k)) m
+      members_law n (set used i true) (f ∷ seen) (subst (λ j. Flags (set used i true) (j ∷ ids l seen)) (sym q) (flags_more used (ids l seen) i w k)) m
       ∙ sym (step_made (λ r. f ∷ r) (read_many n (read_union_child s lim l (read_type s lim l)) (f ∷ seen) m)))))
       ∙ ap step_of (sym (next_next (read_number s lim 1 anything at) _ _))
       ∙ ap (λ g. step_of (next g (rest n seen))) (sym (number_law s lim 1 (id_fits (ids l seen)) at))
@@ -112,22 +112,22 @@ module _ (s : Bytes) (lim l : ℕ) where
 -- A turn over union children
 
 module _ (s : Bytes) (lim l : ℕ) where
-  turn : (used : List ℕ) (n at : ℕ) → 0 < n
-      → read_members s lim l used n at ≡ next (read_id s lim used at) (λ i m. next (read_field s lim l (read_type s lim l) i m) (λ f e. read_members s lim l (set used i 1) (n - 1) e))
+  turn : (used : List Bool) (n at : ℕ) → 0 < n
+      → read_members s lim l used n at ≡ next (read_id s lim used at) (λ i m. next (read_field s lim l (read_type s lim l) i m) (λ f e. read_members s lim l (set used i true) (n - 1) e))
   unfolding read_members
   turn used zero at h = absurd (omega (arith, h))
   turn used (suc n) at h =
       let w : suc n - 1 ≡ n = omega arith in
-      ap (λ m. next (read_id s lim used at) (λ i p. next (read_field s lim l (read_type s lim l) i p) (λ f e. read_members s lim l (set used i 1) m e))) (sym w)
+      ap (λ m. next (read_id s lim used at) (λ i p. next (read_field s lim l (read_type s lim l) i p) (λ f e. read_members s lim l (set used i true) m e))) (sym w)
 
-  module _ (used : List ℕ) (place left : ℕ) (whole : Step) (inv : step_of (read_members s lim l used left place) ≡ whole) where
+  module _ (used : List Bool) (place left : ℕ) (whole : Step) (inv : step_of (read_members s lim l used left place) ≡ whole) where
     pub members_done : left ≤ 0 → Ok place ≡ whole
     unfolding read_members
     members_done h = let z : left ≡ 0 = omega (arith, h) in ap (λ n. step_of (read_members s lim l used n place)) (sym z) ∙ inv
 
     module _ (more : 0 < left) (i : Result (ℕ × ℕ) Refusal) (p : numbered i ≡ item_of (read_id s lim used place)) where
       abbrev after : ℕ → ℕ → read.Step (List ℕ)
-      after i m = next (read_field s lim l (read_type s lim l) i m) (λ f e. read_members s lim l (set used i 1) (left - 1) e)
+      after i m = next (read_field s lim l (read_type s lim l) i m) (λ f e. read_members s lim l (set used i true) (left - 1) e)
 
       pub members_id_stop : (x : Refusal) (y : Result ℕ Refusal) → i ≡ Err x → IsErrAnd y (λ z. z ≡ x) → numbered y ≡ whole
       unfolding next
@@ -135,7 +135,7 @@ module _ (s : Bytes) (lim l : ℕ) where
 
       module _ (v m : ℕ) (q : i ≡ Ok (v, m)) (j : Step) (t : j ≡ step_of (read_field s lim l (read_type s lim l) 0 m)) where
         abbrev last : Field l → ℕ → read.Step (List ℕ)
-        last f e = read_members s lim l (set used v 1) (left - 1) e
+        last f e = read_members s lim l (set used v true) (left - 1) e
 
         id_then : step_of (next (read_field s lim l (read_type s lim l) v m) last) ≡ whole
         unfolding next
@@ -148,7 +148,7 @@ module _ (s : Bytes) (lim l : ℕ) where
         unfolding next
         members_field_stop k n h = h ∙ ap (λ g. step_of (next g last)) (sym (step_no (read_field s lim l (read_type s lim l) v m) field_v h)) ∙ id_then
 
-        pub members_again : (e : ℕ) → j ≡ Ok e → step_of (read_members s lim l (set used v 1) (left - 1) e) ≡ whole
+        pub members_again : (e : ℕ) → j ≡ Ok e → step_of (read_members s lim l (set used v true) (left - 1) e) ≡ whole
         unfolding next
         members_again e h = ap (λ g. step_of (next g last)) (sym (step_is (read_field s lim l (read_type s lim l) v m) field_v h).1) ∙ id_then
 
@@ -159,30 +159,30 @@ small at x e v m true zero h k = let z : x ≡ v = cc in omega (arith, leb-true 
 small at x e v m true (suc w) h k = let z : ◌≡◌ {A = ℕ} 0 1 = cc in absurd (omega arith)
 small at x e v m false w h k = let z : ◌≡◌ {A = ℕ} 0 1 = cc in absurd (omega arith)
 
-pub id_small : (s : Bytes) (lim : ℕ) (used : List ℕ) (at : ℕ) (i : Result (ℕ × ℕ) Refusal) (v m : ℕ) → numbered i ≡ item_of (read_id s lim used at) → i ≡ Ok (v, m) → v < 128
+pub id_small : (s : Bytes) (lim : ℕ) (used : List Bool) (at : ℕ) (i : Result (ℕ × ℕ) Refusal) (v m : ℕ) → numbered i ≡ item_of (read_id s lim used at) → i ≡ Ok (v, m) → v < 128
 unfolding read_id next
 id_small s lim used at i v m p q = go (read_number s lim 1 anything at) (item_is (read_id s lim used at) p (told_ok q))
   where
-    go : (g : read.Step ℕ) → next g (λ i e. judged (unless (leb i 127) 6 then unless (not (eqb (get_or used i 0) 1)) 7) at i e) ≡ got v m → v < 128
+    go : (g : read.Step ℕ) → next g (λ i e. judged (unless (leb i 127) 6 then unless (not (get_or used i false)) 7) at i e) ≡ got v m → v < 128
     go (got x e) h = small at x e v m (leb x 127) _ refl h
     go (bad n k) h = let z : ◌≡◌ {A = ℕ} 0 1 = cc in absurd (omega arith)
 
 -- What is answered to an id
 
-module _ (s : Bytes) (lim : ℕ) (used : List ℕ) (at : ℕ) (i : Result (ℕ × ℕ) Refusal) (p : numbered i ≡ item_of (read_number s lim 1 anything at)) where
+module _ (s : Bytes) (lim : ℕ) (used : List Bool) (at : ℕ) (i : Result (ℕ × ℕ) Refusal) (p : numbered i ≡ item_of (read_number s lim 1 anything at)) where
   pub id_stop : (x : Refusal) (y : Result (ℕ × ℕ) Refusal) → i ≡ Err x → IsErrAnd y (λ z. z ≡ x) → numbered y ≡ item_of (read_id s lim used at)
   unfolding read_id next
-  id_stop x y h t = passed_on x y t ∙ ap item_of (ap (λ g. next g (λ i e. judged (unless (leb i 127) 6 then unless (not (eqb (get_or used i 0) 1)) 7) at i e)) (sym (item_no (read_number s lim 1 anything at) p (told_err h))))
+  id_stop x y h t = passed_on x y t ∙ ap item_of (ap (λ g. next g (λ i e. judged (unless (leb i 127) 6 then unless (not (get_or used i false)) 7) at i e)) (sym (item_no (read_number s lim 1 anything at) p (told_err h))))
 
   module _ (v e : ℕ) (q : i ≡ Ok (v, e)) where
     pub id_large : 127 < v → Err (6, at) ≡ item_of (read_id s lim used at)
     unfolding read_id next judged unless ◌then◌
     id_large h = rw (item_is (read_number s lim 1 anything at) p (told_ok q), lt-leb v 127 h)
 
-    pub id_again : v ≤ 127 → get_or used v 0 ≡ 1 → Err (7, at) ≡ item_of (read_id s lim used at)
+    pub id_again : v ≤ 127 → get_or used v false ≡ true → Err (7, at) ≡ item_of (read_id s lim used at)
     unfolding read_id next judged unless ◌then◌
-    id_again h k = rw (item_is (read_number s lim 1 anything at) p (told_ok q), le-leb v 127 h, eq-eqb (get_or used v 0) 1 k)
+    id_again h k = rw (item_is (read_number s lim 1 anything at) p (told_ok q), le-leb v 127 h, k)
 
-    pub id_new : v ≤ 127 → (get_or used v 0 ≡ 1 → ⊥) → Ok (v, e) ≡ item_of (read_id s lim used at)
+    pub id_new : v ≤ 127 → get_or used v false ≡ false → Ok (v, e) ≡ item_of (read_id s lim used at)
     unfolding read_id next judged unless ◌then◌
-    id_new h k = rw (item_is (read_number s lim 1 anything at) p (told_ok q), le-leb v 127 h, ne_eqb (get_or used v 0) 1 k)
+    id_new h k = rw (item_is (read_number s lim 1 anything at) p (told_ok q), le-leb v 127 h, k)

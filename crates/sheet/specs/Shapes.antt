@@ -1,5 +1,5 @@
 -- What follows a code, and union children by the flags of the ids before them: the definition's readings without the tree.
-use Rattle.std.specs.Prelude.{ℕ, zero, suc, List, [], not, get_or, set, replicate, eqb, leb}
+use Rattle.std.specs.Prelude.{ℕ, zero, suc, List, [], Bool, true, false, not, get_or, set, replicate, leb}
 use Rattle.model.specs.Numbers.{max_type_id, id_too_large, id_repeated}
 use Rattle.model.specs.Bytes.{Bytes, bit}
 use Rattle.model.specs.Tree.{Field, layout}
@@ -18,19 +18,19 @@ read_shape s lim l code place =
     read_children s lim l (read_type s lim l) (layout code).children m
 
 -- no id's flag stands
-unfoldable pub no_ids : List ℕ
-no_ids = replicate 128 0
+unfoldable pub no_ids : List Bool
+no_ids = replicate 128 false
 
 -- an id, after those whose flag stands
-unfoldable pub read_id : Bytes → ℕ → List ℕ → ℕ → Step ℕ
+unfoldable pub read_id : Bytes → ℕ → List Bool → ℕ → Step ℕ
 read_id s lim used place =
     next (read_number s lim 1 anything place) λ i e.
-    judged (unless (leb i max_type_id) id_too_large then unless (not (eqb (get_or used i 0) 1)) id_repeated) place i e
+    judged (unless (leb i max_type_id) id_too_large then unless (not (get_or used i false)) id_repeated) place i e
 
 -- so many union children
-unfoldable pub read_members : Bytes → ℕ → (l : ℕ) → List ℕ → ℕ → ℕ → Step (List ℕ)
+unfoldable pub read_members : Bytes → ℕ → (l : ℕ) → List Bool → ℕ → ℕ → Step (List ℕ)
 read_members s lim l used zero place = got [] place
 read_members s lim l used (suc n) place =
     next (read_id s lim used place) λ i m.
     next (read_field s lim l (read_type s lim l) i m) λ f e.
-    read_members s lim l (set used i 1) n e
+    read_members s lim l (set used i true) n e

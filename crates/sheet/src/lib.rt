@@ -294,14 +294,14 @@ impl<'a> Reader<'a> {
     }
 
     // A union child's id, after those whose flag stands.
-    fn read_id(&self, used: &[u8; 128], at: usize) -> Result<(usize, usize), Refusal>
+    fn read_id(&self, used: &[bool; 128], at: usize) -> Result<(usize, usize), Refusal>
         ensures { numbered result ≡ item_of (read_id self.now.bytes.now self.now.limit used.now at) }
     {
         let (id, next) = self.read_byte(at)?;
         if 127 < id {
             return Err(Refusal(Number::IdTooLarge, at));
         }
-        if used[id] == 1 {
+        if used[id] {
             return Err(Refusal(Number::IdRepeated, at));
         }
         Ok((id, next))
@@ -420,7 +420,7 @@ impl<'a> Reader<'a> {
     fn read_members(&self, at: usize, count: usize, levels: usize) -> Result<usize, Refusal>
         ensures { numbered result ≡ step_of (read_many count (read_union_child self.now.bytes.now self.now.limit levels (read_type self.now.bytes.now self.now.limit levels)) [] at) }
     {
-        let mut used = [0u8; 128];
+        let mut used = [false; 128];
         let mut place = at;
         for _ in 0..count {
             let (id, body) = self.read_id(&used, place)?;
@@ -428,7 +428,7 @@ impl<'a> Reader<'a> {
             let Ok(next) = got else {
                 return got;
             };
-            used[id] = 1;
+            used[id] = true;
             place = next;
         }
         Ok(place)

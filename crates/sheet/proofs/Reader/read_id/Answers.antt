@@ -7,8 +7,8 @@ returns-in_err-id c = id_stop _ _ _ _ _ c.read_byte.ensures _ _ c.in_err-id.was 
 pub returns-then-id-gt127 : goal.returns-then-id-gt127
 returns-then-id-gt127 c = id_large _ _ _ _ _ c.read_byte.ensures _ _ c.in_ok-id.was c.if-id-gt127.true
 
-pub returns-then-used-id-eq1 : goal.returns-then-used-id-eq1
-returns-then-used-id-eq1 c = id_again _ _ _ _ _ c.read_byte.ensures _ _ c.in_ok-id.was c.if-id-gt127.false c.if-used-id-eq1.true
+pub returns-then-used-id : goal.returns-then-used-id
+returns-then-used-id c = id_again _ _ _ _ _ c.read_byte.ensures _ _ c.in_ok-id.was c.if-id-gt127.false c.if-used-id.true
 
 pub returns : goal.returns
-returns c = id_new _ _ _ _ _ c.read_byte.ensures _ _ c.in_ok-id.was c.if-id-gt127.false c.if-used-id-eq1.false
+returns c = id_new _ _ _ _ _ c.read_byte.ensures _ _ c.in_ok-id.was c.if-id-gt127.false c.if-used-id.false
