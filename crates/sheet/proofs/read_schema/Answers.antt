@@ -1,5 +1,3 @@
-use native.Mathlib.Omega.{arith}
-use Rattle.std.proofs.lemmas.Grind.{common_steps}
 use Rattle.sheet.proofs.Ways.{told_ok, told_err, step_then, step_stop, number_stop, number_then, judge_le, judge_nle, bit_way, bit_way_0}
 use Rattle.sheet.proofs.TreeWays.{schema_way}
 use Rattle.sheet.proofs.read_schema.Goals as goal
@@ -13,10 +11,10 @@ returns-then-map-gt3 c = search (schema_way, number_then, judge_nle, told_ok, c.
 pub returns-in_default : goal.returns-in_default
 returns-in_default c =
     schema_way _ _ _ _ (number_then _ _ _ _ _ _ _ _ _ _ c.read_byte.ensures (told_ok c.in_ok-map.was) (judge_le _ _ _ _ _ _ _ _ c.if-map-gt3.false
-    (step_stop _ _ _ _ _ (bit_way_0 _ _ _ _ (λ e. let q = c.read_if-metadata.ensures.there e in grind (arith, common_steps)) c.read_if-metadata.ensures.absent) (told_err c.in_default.is))))
+    (step_stop _ _ _ _ _ (bit_way_0 _ _ _ _ c.read_if-metadata.ensures.there c.read_if-metadata.ensures.absent) (told_err c.in_default.is))))
 
 pub returns : goal.returns
 returns c =
     schema_way _ _ _ _ (number_then _ _ _ _ _ _ _ _ _ _ c.read_byte.ensures (told_ok c.in_ok-map.was) (judge_le _ _ _ _ _ _ _ _ c.if-map-gt3.false
-    (step_then _ _ _ _ _ (bit_way_0 _ _ _ _ (λ e. let q = c.read_if-metadata.ensures.there e in grind (arith, common_steps)) c.read_if-metadata.ensures.absent) (told_ok c.in-Ok.is) λ d.
-    bit_way _ _ _ 1 _ (λ e. let q = c.read_if.ensures.there e in grind (arith, common_steps)) c.read_if.ensures.absent)))
+    (step_then _ _ _ _ _ (bit_way_0 _ _ _ _ c.read_if-metadata.ensures.there c.read_if-metadata.ensures.absent) (told_ok c.in-Ok.is) λ d.
+    bit_way _ _ _ _ _ c.read_if.ensures.there c.read_if.ensures.absent)))

@@ -14,10 +14,6 @@ pub returns-then-s-at : goal.returns-then-s-at
 unfolding read_train
 returns-then-s-at c = train_done _ _ _ _ c.loop.invariant (omega arith)
 
-pub sheet-requires : goal.sheet-requires
-unfolding read_train
-sheet-requires c = omega (arith, c.well_formed.0.1)
-
 pub returns-in_default : goal.returns-in_default
 unfolding read_train
 returns-in_default c = train_stop _ _ _ _ c.loop.invariant (omega arith) (omega arith) _ (from_cursor _ _ _ _ c.sheet.ensures c.read_schema-read.ensures) _ _ (told_err c.in_default.is)

@@ -52,9 +52,6 @@ pub read_field-returns : goal.read_field-returns
 unfolding bit
 read_field-returns t c = search (field_way, ways, c.in_ok-map.was) depth 12
 
-pub read_fields-loop-init : goal.read_fields-loop-init
-read_fields-loop-init t c = let z : c.args.count - 0 ≡ c.args.count = omega arith in rw z refl
-
 pub read_fields-returns-in_default : goal.read_fields-returns-in_default
 read_fields-returns-in_default t c = many_stop _ _ _ _ c.loop.invariant (omega (arith, c.loop-test.true)) _ c.read_field-got.ensures _ _ (told_err c.in_default.is)
 

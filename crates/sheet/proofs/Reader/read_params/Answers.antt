@@ -25,6 +25,3 @@ returns-in-Int32 c = params_way _ _ _ _ _ _ c.in-Int32.ensures (wide_way _ _ _ _
 pub returns-in-Flag : goal.returns-in-Flag
 unfolding params_of
 returns-in-Flag c = params_way _ _ _ _ _ _ c.in-Flag.ensures (one_way _ _ _ _ _ c.read_param-in-Flag.ensures)
-
-pub returns-in-Decimal : goal.returns-in-Decimal
-returns-in-Decimal c = params_way _ _ _ _ _ _ c.in-Decimal.ensures c.read_decimal.ensures

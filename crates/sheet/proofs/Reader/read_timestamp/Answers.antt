@@ -1,5 +1,3 @@
-use native.Mathlib.Omega.{arith}
-use Rattle.std.proofs.lemmas.Grind.{common_steps}
 use Rattle.sheet.proofs.Ways.{ways, told_ok, item_stop, item_then, step_then, judge_le, bit_way_0}
 use Rattle.sheet.proofs.ParamWays.{timestamp_way}
 use Rattle.sheet.proofs.Reader.read_timestamp.Goals as goal
@@ -18,4 +16,4 @@ pub returns : goal.returns
 returns c =
     timestamp_way _ _ _ _ (step_then _ _ _ _ _ c.read_param-unit.ensures (told_ok c.in-Ok.is) λ u.
     item_then _ _ _ _ _ _ c.read_byte.ensures (told_ok c.in_ok-map.was) (judge_le _ _ _ _ _ _ _ _ c.if-map-gt1.false
-    (bit_way_0 _ _ _ _ (λ e. let q = c.read_if.ensures.there e in grind (arith, common_steps)) c.read_if.ensures.absent)))
+    (bit_way_0 _ _ _ _ c.read_if.ensures.there c.read_if.ensures.absent)))
