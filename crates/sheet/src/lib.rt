@@ -313,7 +313,7 @@ impl<'a> Reader<'a> {
         ensures { numbered result ≡ step_of (read_field self.now.bytes.now self.now.limit levels (read_type self.now.bytes.now self.now.limit levels) 0 at) }
     {
         let (map, next) = self.read_byte(at)?;
-        if levels <= 0 {
+        if levels == 0 {
             return Err(Refusal(Number::TooDeep, at));
         }
         if 31 < map {
@@ -332,7 +332,7 @@ impl<'a> Reader<'a> {
         ensures { numbered result ≡ step_of (read_type self.now.bytes.now self.now.limit levels ordered at) }
     {
         let (code, next) = self.read_byte(at)?;
-        if levels <= 0 {
+        if levels == 0 {
             return Err(Refusal(Number::TooDeep, at));
         }
         if layout::LAST_CODE < code {

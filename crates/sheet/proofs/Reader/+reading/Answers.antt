@@ -1,5 +1,5 @@
 use Prim.Native.Nat.{◌+◌, ◌-◌}
-use Rattle.sheet.proofs.Ways.{ways, told_ok, told_err, item_stop, number_stop, item_then, judge_lt_then, judge_le_then, judge_true, judge_false}
+use Rattle.sheet.proofs.Ways.{ways, told_ok, told_err, item_stop, number_stop, item_then, judge_left_then, judge_le_then, judge_true, judge_false}
 use Rattle.sheet.proofs.TreeWays.{field_way, type_way, children_way, fields_way, dictionary_way, many_done, many_stop, many_again}
 use Rattle.sheet.proofs.Members.{members_begin, members_done, members_id_stop, members_field_stop, members_again, id_small}
 use native.Mathlib.Omega.{arith}
@@ -36,21 +36,21 @@ pub read_field-returns-in_err-map : goal.read_field-returns-in_err-map
 unfolding bit
 read_field-returns-in_err-map t c = field_way _ _ _ _ _ (number_stop _ _ _ _ _ _ _ _ c.read_byte.ensures c.in_err-map.was c.from_residual.ensures.1)
 
-pub read_field-returns-then-levels-le0 : goal.read_field-returns-then-levels-le0
+pub read_field-returns-then-levels-eq0 : goal.read_field-returns-then-levels-eq0
 unfolding bit
-read_field-returns-then-levels-le0 t c = search (field_way, ways, c.in_ok-map.was) depth 12
+read_field-returns-then-levels-eq0 t c = search (field_way, ways, c.in_ok-map.was) depth 12
 
 pub read_field-returns-then-map-gt31 : goal.read_field-returns-then-map-gt31
 unfolding bit
-read_field-returns-then-map-gt31 t c = search (field_way, ways, c.in_ok-map.was) depth 12
+read_field-returns-then-map-gt31 t c = search (field_way, ways, c.in_ok-map.was, c.if-levels-eq0.false) depth 12
 
 pub read_field-returns-in_default : goal.read_field-returns-in_default
 unfolding bit
-read_field-returns-in_default t c = search (field_way, ways, c.in_ok-map.was) depth 12
+read_field-returns-in_default t c = search (field_way, ways, c.in_ok-map.was, c.if-levels-eq0.false) depth 12
 
 pub read_field-returns : goal.read_field-returns
 unfolding bit
-read_field-returns t c = search (field_way, ways, c.in_ok-map.was) depth 12
+read_field-returns t c = search (field_way, ways, c.in_ok-map.was, c.if-levels-eq0.false) depth 12
 
 pub read_fields-returns-in_default : goal.read_fields-returns-in_default
 read_fields-returns-in_default t c = many_stop _ _ _ _ c.loop.invariant (omega (arith, c.loop-test.true)) _ c.read_field-got.ensures _ _ (told_err c.in_default.is)
@@ -101,19 +101,19 @@ unfolding read_children read_list
 read_struct-returns t c = search (ways, c.in_ok-count.was) depth 8
 
 pub read_type-returns-then-may_order : goal.read_type-returns-then-may_order
-read_type-returns-then-may_order t c = type_way _ _ _ _ _ _ (item_then _ _ _ _ _ _ c.read_byte.ensures (told_ok c.in_ok-code.was) (judge_lt_then _ _ _ _ _ _ _ _ _ c.if-levels-le0.false (judge_le_then _ _ _ _ _ _ _ _ _ c.if-code-gt-LAST_CODE.false (judge_true _ _ _ _ _ _ _ _ c.may_order.ensures c.if-may_order.true c.read_shape.ensures))))
+read_type-returns-then-may_order t c = type_way _ _ _ _ _ _ (item_then _ _ _ _ _ _ c.read_byte.ensures (told_ok c.in_ok-code.was) (judge_left_then _ _ _ _ _ _ _ _ c.if-levels-eq0.false (judge_le_then _ _ _ _ _ _ _ _ _ c.if-code-gt-LAST_CODE.false (judge_true _ _ _ _ _ _ _ _ c.may_order.ensures c.if-may_order.true c.read_shape.ensures))))
 
 pub read_type-returns : goal.read_type-returns
-read_type-returns t c = type_way _ _ _ _ _ _ (item_then _ _ _ _ _ _ c.read_byte.ensures (told_ok c.in_ok-code.was) (judge_lt_then _ _ _ _ _ _ _ _ _ c.if-levels-le0.false (judge_le_then _ _ _ _ _ _ _ _ _ c.if-code-gt-LAST_CODE.false (judge_false _ _ _ _ _ _ _ _ refl c.may_order.ensures c.if-may_order.false refl))))
+read_type-returns t c = type_way _ _ _ _ _ _ (item_then _ _ _ _ _ _ c.read_byte.ensures (told_ok c.in_ok-code.was) (judge_left_then _ _ _ _ _ _ _ _ c.if-levels-eq0.false (judge_le_then _ _ _ _ _ _ _ _ _ c.if-code-gt-LAST_CODE.false (judge_false _ _ _ _ _ _ _ _ refl c.may_order.ensures c.if-may_order.false refl))))
 
 pub read_type-returns-in_err-code : goal.read_type-returns-in_err-code
 read_type-returns-in_err-code t c = type_way _ _ _ _ _ _ (item_stop _ _ _ _ c.read_byte.ensures c.in_err-code.was c.from_residual.ensures.1)
 
-pub read_type-returns-then-levels-le0 : goal.read_type-returns-then-levels-le0
-read_type-returns-then-levels-le0 t c = search (type_way, ways, c.in_ok-code.was) depth 12
+pub read_type-returns-then-levels-eq0 : goal.read_type-returns-then-levels-eq0
+read_type-returns-then-levels-eq0 t c = search (type_way, ways, c.in_ok-code.was) depth 12
 
 pub read_type-returns-then-code-gt-LAST_CODE : goal.read_type-returns-then-code-gt-LAST_CODE
-read_type-returns-then-code-gt-LAST_CODE t c = search (type_way, ways, c.in_ok-code.was) depth 12
+read_type-returns-then-code-gt-LAST_CODE t c = search (type_way, ways, c.in_ok-code.was, c.if-levels-eq0.false) depth 12
 
 pub read_union-returns-in_err-count : goal.read_union-returns-in_err-count
 unfolding read_children read_list
