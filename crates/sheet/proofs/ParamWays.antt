@@ -26,10 +26,6 @@ zone_way r s lim at h =
     h ∙ ap step_of (number_alike s lim 2 at _)
     ∙ next_alike (read_item s lim 2 anything at) _ _ (λ b e. sym (step_made (λ t. b ++ t) (read_item s lim (num b) is_text e)))
 
-or_false_law : (a : Bool) → (a || false) ≡ a
-or_false_law true = refl
-or_false_law false = refl
-
 -- the zone's map, then the zone
 map_alike : {B C : Type 0} (s : Bytes) (lim at : ℕ) (f : Bytes → ℕ → read.Step B) (g : ℕ → ℕ → read.Step C) → ((b : Bytes) (e : ℕ) → step_of (f b e) ≡ step_of (g (num b) e))
     → step_of (next (read_item s lim 1 (param_fits zone_map) at) f) ≡ step_of (next (read_number s lim 1 anything at) (λ v e. next (judged (unless (leb v 1) malformed) at v e) g))

@@ -95,9 +95,6 @@ module _ {B : Type 0} (r : Step) where
     unfolding next
     step_stop g f k p e t = rw (step_no g e t) t
 
-    pub step_make : (f : A → B) (g : read.Step A) → r ≡ step_of g → r ≡ step_of (next g (λ a e. got (f a) e))
-    step_make f g h = h ∙ sym (step_made f g)
-
 -- the `?` of an item that is refused: y is what is returned
 
 pub passed_on : {B : Type 0} (x : Refusal) (y : Result B Refusal) → IsErrAnd y (λ z. z ≡ x) → numbered y ≡ Err (number_of x.0, x.1)
@@ -128,10 +125,6 @@ then_refuses (suc m) n h = refl
 -- Verdicts on a value
 
 module _ {A B : Type 0} (r : Step) (place : ℕ) (v : A) (e : ℕ) (f : A → ℕ → read.Step B) where
-  pub judge_pass : r ≡ step_of (f v e) → r ≡ step_of (next (judged 0 place v e) f)
-  unfolding next judged
-  judge_pass h = h
-
   -- any number is at least 0
   pub judge_any : (b k : ℕ) → r ≡ step_of (f v e) → r ≡ step_of (next (judged (unless (leb 0 b) k) place v e) f)
   unfolding next judged unless
@@ -318,4 +311,4 @@ module _ (s : Bytes) (lim at : ℕ) {raw : Result ℕ Refusal} (e : numbered raw
       unfolding judged unless
       dict_id_there n = sym (read_is ∙ ap (λ b. step_of (judged (unless b malformed) at (take 8 (drop at s)) end)) (le-leb 1 v (omega (arith, n))))
 
-pub ruleset ways = (told_ok, told_err, item_then, number_then, step_then, step_stop, step_make, judge_pass, judge_any, judge_le, judge_nle, judge_le_then, judge_nle_then, judge_left_then, judge_none_then, judge_true, judge_false, end_le, end_nle, param_way)
+pub ruleset ways = (told_ok, told_err, item_then, number_then, step_then, step_stop, judge_any, judge_le, judge_nle, judge_le_then, judge_nle_then, judge_left_then, judge_none_then, judge_true, judge_false, end_le, end_nle, param_way)

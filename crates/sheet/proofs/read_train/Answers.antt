@@ -1,6 +1,6 @@
-use mathlib.Core.Path.{◌≡◌, refl}
+use Rattle.std.proofs.Math.Nat.{sub-add-eq}
+use mathlib.Core.Path.{refl}
 use native.Mathlib.Omega.{arith}
-use Prim.Native.Nat.{◌+◌, ◌-◌}
 use Rattle.model.specs.Read.{read_train}
 use Rattle.sheet.proofs.Ways.{told_ok, told_err}
 use Rattle.sheet.proofs.TreeWays.{from_cursor, train_done, train_full, train_stop, train_again}
@@ -21,8 +21,7 @@ returns-in_default c = train_stop _ _ _ _ c.loop.invariant (omega arith) (omega 
 pub loop-preserved : goal.loop-preserved
 unfolding read_train
 loop-preserved c =
-    let z : 256 - (c.loop.counter + 1) ≡ 256 - c.loop.counter - 1 = omega arith in
-    rw z (train_again _ _ _ _ c.loop.invariant (omega arith) (omega arith) _ (from_cursor _ _ _ _ c.sheet.ensures c.read_schema-read.ensures) _ (told_ok c.in-Ok.is))
+    rw (sub-add-eq 256 c.loop.counter 1) (train_again _ _ _ _ c.loop.invariant (omega arith) (omega arith) _ (from_cursor _ _ _ _ c.sheet.ensures c.read_schema-read.ensures) _ (told_ok c.in-Ok.is))
 
 pub returns-then-at-s : goal.returns-then-at-s
 unfolding read_train

@@ -1,9 +1,9 @@
-use Prim.Native.Nat.{◌+◌, ◌-◌}
-use Rattle.sheet.proofs.Ways.{ways, told_ok, told_err, item_stop, number_stop, item_then, judge_left_then, judge_le_then, judge_true, judge_false}
+use Rattle.std.proofs.Math.Nat.{sub-add-eq}
+use native.Mathlib.Nat.{sub-zero}
+use Rattle.sheet.proofs.Ways.{ways, told_ok, told_err, item_stop, number_stop}
 use Rattle.sheet.proofs.TreeWays.{field_way, type_way, children_way, fields_way, dictionary_way, many_done, many_stop, many_again}
 use Rattle.sheet.proofs.Members.{members_begin, members_done, members_id_stop, members_field_stop, members_again, id_small}
 use native.Mathlib.Omega.{arith}
-use mathlib.Core.Path.{◌≡◌, refl}
 use Rattle.model.specs.Bytes.{bit}
 use Rattle.model.specs.Read.{read_children, read_list}
 use Rattle.layout.specs.Kinds.{children_of}
@@ -57,15 +57,14 @@ read_fields-returns-in_default t c = many_stop _ _ _ _ c.loop.invariant (omega (
 
 pub read_fields-loop-preserved : goal.read_fields-loop-preserved
 read_fields-loop-preserved t c =
-    let z : c.args.count - (c.loop.counter + 1) ≡ c.args.count - c.loop.counter - 1 = omega arith in
-    rw z (many_again _ _ _ _ c.loop.invariant (omega (arith, c.loop-test.true)) _ c.read_field-got.ensures _ (told_ok c.in-Ok.is))
+    rw (sub-add-eq c.args.count c.loop.counter 1) (many_again _ _ _ _ c.loop.invariant (omega (arith, c.loop-test.true)) _ c.read_field-got.ensures _ (told_ok c.in-Ok.is))
 
 pub read_fields-returns : goal.read_fields-returns
 read_fields-returns t c = many_done _ _ _ _ c.loop.invariant (omega (arith, c.loop-test.false))
 
 pub read_members-loop-init : goal.read_members-loop-init
 unfolding no_ids
-read_members-loop-init t c = let z : c.args.count - 0 ≡ c.args.count = omega arith in rw z (members_begin _ _ _ _ _)
+read_members-loop-init t c = rw sub-zero (members_begin _ _ _ _ _)
 
 pub read_members-returns-in_err-id : goal.read_members-returns-in_err-id
 read_members-returns-in_err-id t c = members_id_stop _ _ _ _ _ _ _ c.loop.invariant (omega (arith, c.loop-test.true)) _ c.read_id.ensures _ _ c.in_err-id.was c.from_residual.ensures.1
@@ -78,8 +77,7 @@ read_members-bounds-used-id t c = id_small _ _ _ _ _ _ _ c.read_id.ensures c.in_
 
 pub read_members-loop-preserved : goal.read_members-loop-preserved
 read_members-loop-preserved t c =
-    let z : c.args.count - (c.loop.counter + 1) ≡ c.args.count - c.loop.counter - 1 = omega arith in
-    rw z (members_again _ _ _ _ _ _ _ c.loop.invariant (omega (arith, c.loop-test.true)) _ c.read_id.ensures _ _ c.in_ok-id.was _ c.read_field-got.ensures _ (told_ok c.in-Ok.is))
+    rw (sub-add-eq c.args.count c.loop.counter 1) (members_again _ _ _ _ _ _ _ c.loop.invariant (omega (arith, c.loop-test.true)) _ c.read_id.ensures _ _ c.in_ok-id.was _ c.read_field-got.ensures _ (told_ok c.in-Ok.is))
 
 pub read_members-returns : goal.read_members-returns
 read_members-returns t c = members_done _ _ _ _ _ _ _ c.loop.invariant (omega (arith, c.loop-test.false))
@@ -101,10 +99,10 @@ unfolding read_children read_list
 read_struct-returns t c = search (ways, c.in_ok-count.was) depth 8
 
 pub read_type-returns-then-may_order : goal.read_type-returns-then-may_order
-read_type-returns-then-may_order t c = type_way _ _ _ _ _ _ (item_then _ _ _ _ _ _ c.read_byte.ensures (told_ok c.in_ok-code.was) (judge_left_then _ _ _ _ _ _ _ _ c.if-levels-eq0.false (judge_le_then _ _ _ _ _ _ _ _ _ c.if-code-gt-LAST_CODE.false (judge_true _ _ _ _ _ _ _ _ c.may_order.ensures c.if-may_order.true c.read_shape.ensures))))
+read_type-returns-then-may_order t c = search (type_way, ways, c.in_ok-code.was, c.if-levels-eq0.false) depth 12
 
 pub read_type-returns : goal.read_type-returns
-read_type-returns t c = type_way _ _ _ _ _ _ (item_then _ _ _ _ _ _ c.read_byte.ensures (told_ok c.in_ok-code.was) (judge_left_then _ _ _ _ _ _ _ _ c.if-levels-eq0.false (judge_le_then _ _ _ _ _ _ _ _ _ c.if-code-gt-LAST_CODE.false (judge_false _ _ _ _ _ _ _ _ refl c.may_order.ensures c.if-may_order.false refl))))
+read_type-returns t c = search (type_way, ways, c.in_ok-code.was, c.if-levels-eq0.false) depth 12
 
 pub read_type-returns-in_err-code : goal.read_type-returns-in_err-code
 read_type-returns-in_err-code t c = type_way _ _ _ _ _ _ (item_stop _ _ _ _ c.read_byte.ensures c.in_err-code.was c.from_residual.ensures.1)

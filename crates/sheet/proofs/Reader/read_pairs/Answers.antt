@@ -1,12 +1,12 @@
+use Rattle.std.proofs.Math.Nat.{sub-add-eq}
+use native.Mathlib.Nat.{sub-zero}
 use native.Mathlib.Omega.{arith}
-use mathlib.Core.Path.{◌≡◌}
-use Prim.Native.Nat.{◌+◌, ◌-◌}
 use Rattle.sheet.proofs.Ways.{told_ok, told_err}
 use Rattle.sheet.proofs.Pairs.{key_got, pairs_begin, pairs_done, pairs_key_stop, pairs_value_stop, pairs_again}
 use Rattle.sheet.proofs.Reader.read_pairs.Goals as goal
 
 pub loop-init : goal.loop-init
-loop-init c = let z : c.args.count - 0 ≡ c.args.count = omega arith in rw z (pairs_begin _ _ _ _)
+loop-init c = rw sub-zero (pairs_begin _ _ _ _)
 
 pub returns-in_default : goal.returns-in_default
 returns-in_default c = pairs_key_stop _ _ _ _ _ _ c.loop.invariant (omega arith) _ c.read_key-keyed.ensures _ _ (told_err c.in_default.is)
@@ -16,8 +16,7 @@ returns-in_default-valued c = pairs_value_stop _ _ _ _ _ _ c.loop.invariant (ome
 
 pub loop-preserved : goal.loop-preserved
 loop-preserved c =
-    let z : c.args.count - (c.loop.counter + 1) ≡ c.args.count - c.loop.counter - 1 = omega arith in
-    rw z (pairs_again _ _ _ _ _ _ c.loop.invariant (omega arith) _ c.read_key-keyed.ensures _ (told_ok c.in-Ok.is) _ c.read_text-valued.ensures _ (told_ok c.in-Ok-valued.is))
+    rw (sub-add-eq c.args.count c.loop.counter 1) (pairs_again _ _ _ _ _ _ c.loop.invariant (omega arith) _ c.read_key-keyed.ensures _ (told_ok c.in-Ok.is) _ c.read_text-valued.ensures _ (told_ok c.in-Ok-valued.is))
 
 pub overflow_add-previous : goal.overflow_add-previous
 overflow_add-previous c = let g = key_got _ _ _ _ _ _ c.read_key-keyed.ensures (told_ok c.in-Ok.is) in omega (arith, g.begins)
