@@ -152,7 +152,8 @@ impl<'a> Reader<'a> {
         self.read_text(at, 1)
     }
 
-    // A part that stands where a bit of a map is set.
+    // A part that stands where a bit of a map is set. In line, so that one that does not stand costs no call.
+    #[inline(always)]
     fn read_if<F: FnOnce(&Reader<'a>, usize) -> Result<usize, Refusal>>(
         &self,
         at: usize,
