@@ -160,7 +160,7 @@ impl<'a> Reader<'a> {
         set: bool,
         read: F,
     ) -> Result<usize, Refusal>
-        requires { F.IsAlwaysCallable read }
+        requires { F.pre read self at }
         ensures there { set ≡ true → F.post read self.entry at result }
         ensures absent { set ≡ false → result ≡ Ok at }
     {
