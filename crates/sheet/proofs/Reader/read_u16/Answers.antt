@@ -12,6 +12,9 @@ returns-in_err-next c = num_stop _ _ _ _ c.read_raw.ensures _ _ c.in_err-next.wa
 pub bounds-self-at : goal.bounds-self-at
 bounds-self-at c = omega (arith, (raw_got _ _ _ _ c.read_raw.ensures c.in_ok-next.was).inside)
 
+pub overflow_add-at : goal.overflow_add-at
+overflow_add-at c = omega (arith, (raw_got _ _ _ _ c.read_raw.ensures c.in_ok-next.was).ends)
+
 pub bounds-self-at-2 : goal.bounds-self-at-2
 bounds-self-at-2 c = omega (arith, (raw_got _ _ _ _ c.read_raw.ensures c.in_ok-next.was).inside)
 
@@ -21,6 +24,3 @@ returns c =
     let at = c.args.at in
     let e : c.from.result ≡ get_or s at 0 + 256 * get_or s (at + 1) 0 = omega arith in
     num_read _ _ _ _ c.read_raw.ensures c.in_ok-next.was (e ∙ two_bytes _ _ (raw_got _ _ _ _ c.read_raw.ensures c.in_ok-next.was).inside)
-
-pub overflow_add-at : goal.overflow_add-at
-overflow_add-at c = omega (arith, (raw_got _ _ _ _ c.read_raw.ensures c.in_ok-next.was).ends)
