@@ -1,4 +1,5 @@
 -- Which numbers each operation can refuse with: those of document 01's table that are its own, and no other. So "0 means accepted".
+use Rattle.std.specs.Prelude.{Option, Some, None}
 use Prim.Native.Nat.{ℕ, zero, suc, ◌+◌}
 use mathlib.Core.Path.{◌≡◌, refl, sym, ap, ◌∙◌}
 use mathlib.Core.List.{List, [], ◌∷◌, ◌++◌, map}
@@ -10,7 +11,7 @@ use Rattle.model.specs.Numbers.{max_levels, max_sheet_bytes, max_sheets, accepte
 use Rattle.model.specs.Numbers.{schema_metadata_clash, ordered_clash, field_metadata_clash, type_clash, equal_child_clash, type_id_clash}
 use Rattle.model.specs.Numbers.{id_numbers, reading_numbers, field_numbers, clash_numbers}
 use Rattle.model.specs.Numbers.{odd_list, index_out_of_bounds, index_repeated, mask_length, separator_not_utf8, no_such_column, more_fields_than_ids, more_ids_than_fields, too_many_fields, answer_too_long, answer_buffer_short, work_buffer_short}
-use Rattle.model.specs.Bytes.{Bytes, Metadata, Found, found, missing, choose, all, num, bit, among}
+use Rattle.model.specs.Bytes.{Bytes, Metadata, choose, all, num, bit, among}
 use Rattle.model.specs.Tree.{DataTypeOver, FieldOver, DataType, Field, Schema, Params, items, timestamp, Children, fields, key_and_value, counted, counted_with_ids, layout}
 use Rattle.model.specs.Read.{Step, got, bad, Reader, next, judged, if_set, unless, ◌then◌, at_least, is_text, map_fits, id_fits, param_fits, read_many, read_item, read_number, read_text, read_pair, read_list, read_metadata, read_dict_id, read_field, read_bare_type, read_union_child, read_children, read_zone, read_params, read_type, read_column, read_schema, read_sheet, shifted, read_two, read_sheets, read_train}
 use Rattle.model.specs.Merge.{Merged, done, clash, ◌>>=◌, need, pour, merge_pair, merge_metadata, merge_by_name, merge_child, merge_field, merge_each, merge_same_code, merge_type, merge_schema, placed, merge_from, try_merge}
@@ -536,10 +537,10 @@ pub is_nested_refuses : (sheet : Bytes) → AnswersBy sheet_numbers (is_nested_a
 unfolding is_nested_answer
 is_nested_refuses sheet = then_answers (sheet_refuses sheet) λ x. answers
 
-found_refuses : (p : Found) → Refuses (Among index_of_numbers) (if_found p)
+found_refuses : (p : Option ℕ) → Refuses (Among index_of_numbers) (if_found p)
 unfolding if_found among
-found_refuses (found i) = gives
-found_refuses missing = stops refl
+found_refuses (Some i) = gives
+found_refuses None = stops refl
 
 -- `index_of`: those of a sheet, and 13
 pub index_of_refuses : (sheet name : Bytes) → AnswersBy index_of_numbers (index_of_answer sheet name)

@@ -9,7 +9,7 @@ use lib.Dec.{eqb}
 use lib.Seq.{take-length, take-append_seam}
 use borrow.Author.Tests.{ne_eqb}
 use Rattle.model.specs.Numbers.{max_levels, no_such_column}
-use Rattle.model.specs.Bytes.{Bytes, Every, bit, Found, found, missing, position, same, same_bytes, u16}
+use Rattle.model.specs.Bytes.{Bytes, Every, bit, position, same, same_bytes, u16}
 use Rattle.model.specs.Tree.{Head, Field, Schema}
 use Rattle.model.specs.Sheet.{each, text_bytes, head_bytes, column_bytes, sheet_bytes}
 use Rattle.model.specs.WellFormed.{LaidOut, Fits}
@@ -29,7 +29,7 @@ use Rattle.walk.proofs.Schemas.{sheet_columns}
 use Rattle.walk.proofs.Descents.{head_stands, name_stands, no_name, body_stands}
 use Rattle.walk.proofs.Passed.{Passed, Here, passed_again, passed_here, passed_done}
 use Rattle.std.specs.Prelude.{Option, Some, None, Result, Err}
-use Rattle.schema.specs.Answers.{match_of, Narrow}
+use Rattle.schema.specs.Answers.{Narrow}
 use Rattle.walk.proofs.Standing.{whole_stands, first_stands, two_stands, num_u16}
 use Rattle.walk.proofs.Parts.{Ahead, two_at, bit_true, bit_false}
 
@@ -97,7 +97,7 @@ seam d x (y ∷ done) rest = seam d x done rest
 -- what `find_name` ensures
 abbrev Finds : (s name : Bytes) (first count : ℕ) → Option ℕ → Type 0
 Finds s name first count r =
-    (fs : List (Field max_levels)) → length fs ≡ count → Every Good fs → Stands s first (each column_bytes fs) → r ≡ match_of (position (has_name name) fs)
+    (fs : List (Field max_levels)) → length fs ≡ count → Every Good fs → Stands s first (each column_bytes fs) → r ≡ position (has_name name) fs
 
 module _ (s name : Bytes) where
   module _ {first count place i : ℕ} (k : Searched s name first count place i) where
@@ -115,24 +115,24 @@ module _ (s name : Bytes) where
       pub searched_found : {r : Option ℕ} → b ≡ true → r ≡ Some i → Finds s name first count r
       searched_found {r} e q fs n w st = go (passed_here Good column_bytes s k.passed h fs n w st)
         where
-          go : Here Good column_bytes s (Others name) place i fs → r ≡ match_of (position (has_name name) fs)
+          go : Here Good column_bytes s (Others name) place i fs → r ≡ position (has_name name) fs
           go u =
               let xs = u.done ++ (u.this ∷ u.rest) in
-              let f : position (has_name name) xs ≡ found (length u.done) =
+              let f : position (has_name name) xs ≡ Some (length u.done) =
               position_first (has_name name) u.this xs (length u.done)
               (subst (Others name) (sym (take-append_seam u.done (u.this ∷ u.rest))) u.fact)
               (omega (arith, length-append u.done (u.this ∷ u.rest)))
               (ap (has_name name) (seam u.this u.this u.done u.rest) ∙ sym (verdict u.this (first_stands (column_bytes u.this) (each column_bytes u.rest) u.stands)) ∙ e) in
-              q ∙ sym (ap match_of (ap (position (has_name name)) u.parts ∙ f ∙ ap found u.passed))
+              q ∙ sym (ap (position (has_name name)) u.parts ∙ f ∙ ap (λ i. Some i) u.passed)
 
     pub searched_done : {r : Option ℕ} → count ≤ i → r ≡ None → Finds s name first count r
     searched_done h q fs n w st =
         let p = passed_done Good column_bytes s k.passed h fs n w st in
-        q ∙ sym (ap match_of (position_none (has_name name) fs (length fs) (subst (Others name) (sym (take-length fs)) p) (omega arith)))
+        q ∙ sym (position_none (has_name name) fs (length fs) (subst (Others name) (sym (take-length fs)) p) (omega arith))
 
 -- among the columns of a sheet that was read
 pub column_found : {s : Bytes} (name : Bytes) {n first : ℕ} {r : Option ℕ} → ((x : Schema) → Stands s 0 (sheet_bytes x) → ColumnsAt s 0 x n first) → Finds s name first n r
-    → (x : Schema) → Fits x → s ≡ sheet_bytes x → r ≡ match_of (position (has_name name) x.columns)
+    → (x : Schema) → Fits x → s ≡ sheet_bytes x → r ≡ position (has_name name) x.columns
 column_found {s} name find f x fits e =
     let c = find x (whole_stands s (sheet_bytes x) e) in
     f x.columns (sym c.count) (columns_laid_out x fits.well_formed) c.stands
@@ -143,19 +143,22 @@ column_found {s} name find f x fits e =
 pub narrow_found : (x : Schema) → Fits x → (p : Field max_levels → Bool) → Narrow (position p x.columns)
 narrow_found x fits p = go (position p x.columns) refl
   where
-    go : (f : Found) → position p x.columns ≡ f → Narrow f
-    go (found i) h = omega (arith, (position_found p x.columns i h).inside, sheet_columns x, fits.size)
-    go missing h = tt
+    go : (f : Option ℕ) → position p x.columns ≡ f → Narrow f
+    go (Some i) h = omega (arith, (position_found p x.columns i h).inside, sheet_columns x, fits.size)
+    go None h = tt
 
 module _ {m : Option ℕ} (work answer : Bytes) where
-  pub index_written : {i : ℕ} {x : Exit} → m ≡ Some i → (i < 65536 → x ≡ acceptance (u16 i) work answer)
-      → (f : Found) → m ≡ match_of f → Narrow f → x ≡ settled (and_then (if_found f) bytes) work answer
+  pub index_written : {i : ℕ} {x : Exit} → m ≡ Some i → (i < 65536 → x ≡ acceptance (u16 i) work answer) → Narrow m → x ≡ settled (and_then (if_found m) bytes) work answer
   unfolding settled and_then if_found
-  index_written {i} {x} h k (found j) e w = let q : i ≡ j = cc in k (omega (arith, q, w)) ∙ ap (λ n. acceptance (u16 n) work answer) q
-  index_written {i} {x} h k missing e w = absurd (let z : ◌≡◌ {A = ℕ} 0 1 = cc in omega arith)
+  index_written {i} {x} h k w = subst (λ m. x ≡ settled (and_then (if_found m) bytes) work answer) (sym h) (k (subst Narrow h w))
 
   pub index_missing : {r : Result ℕ Refusal} {after : Bytes} → m ≡ None → r ≡ Err (without_place Number.NoSuchColumn) → after ≡ work
-      → (f : Found) → m ≡ match_of f → Narrow f → leaves r answer after ≡ settled (and_then (if_found f) bytes) work answer
+      → leaves r answer after ≡ settled (and_then (if_found m) bytes) work answer
   unfolding settled and_then if_found
-  index_missing h k z (found j) e w = absurd (let z : ◌≡◌ {A = ℕ} 0 1 = cc in omega arith)
-  index_missing h k z missing e w = leaves_refusal (without_place Number.NoSuchColumn) _ answer k ∙ ap (λ v. refusal no_such_column 0 v answer) z
+  index_missing {r} {after} h k z =
+      subst (λ m. leaves r answer after ≡ settled (and_then (if_found m) bytes) work answer) (sym h)
+      (leaves_refusal (without_place Number.NoSuchColumn) _ answer k ∙ ap (λ v. refusal no_such_column 0 v answer) z)
+
+  -- of a position that is the definition's
+  pub answer_of_position : {p : Option ℕ} {x : Exit} → m ≡ p → (Narrow m → x ≡ settled (and_then (if_found m) bytes) work answer) → Narrow p → x ≡ settled (and_then (if_found p) bytes) work answer
+  answer_of_position {x = x} e k w = subst (λ m. Narrow m → x ≡ settled (and_then (if_found m) bytes) work answer) e k w

@@ -4,7 +4,7 @@
 
 ghost use Rattle.std.specs.Prelude.{◌≡◌, List, ℕ, length};
 ghost use Rattle.model.specs.Numbers.{max_levels};
-ghost use Rattle.model.specs.Bytes.{Bytes, Every, Found, position, same_bytes};
+ghost use Rattle.model.specs.Bytes.{Bytes, Every, position, same_bytes};
 ghost use Rattle.model.specs.Tree.{Head, Field, Schema};
 ghost use Rattle.model.specs.Sheet.{each, text_bytes, head_bytes, column_bytes, sheet_bytes};
 ghost use Rattle.model.specs.WellFormed.{LaidOut, Fits};
@@ -12,7 +12,7 @@ ghost use Rattle.model.specs.Schema.{if_found};
 ghost use Rattle.model.specs.Call.{and_then, bytes, settled, zeros, index_of_call, flattened_fields_call};
 ghost use Rattle.buffer.specs.Leaves.{leaves};
 ghost use Rattle.walk.specs.Stands.{Stands};
-ghost use Rattle.schema.specs.Answers.{match_of, Narrow};
+ghost use Rattle.schema.specs.Answers.{Narrow};
 ghost use Rattle.schema.specs.Flattens.{Puts, FlattensType, FlattensField, FlattensRow, FlattensChildren, Listed};
 
 use buffer::{Number, Refusal};
@@ -43,7 +43,7 @@ fn has_name(s: &[u8], at: usize, name: &[u8]) -> bool
 
 // The position of the first of so many columns that has this name.
 fn find_name(s: &[u8], columns: Elements, name: &[u8]) -> Option<usize>
-    ensures { (fs : List (Field max_levels)) → length fs ≡ columns.count → Every (λ f. LaidOut max_levels f.data_type) fs → Stands s.now columns.at (each column_bytes fs) → result ≡ match_of (position (λ f. same_bytes f.head.name name.now) fs) }
+    ensures { (fs : List (Field max_levels)) → length fs ≡ columns.count → Every (λ f. LaidOut max_levels f.data_type) fs → Stands s.now columns.at (each column_bytes fs) → result ≡ position (λ f. same_bytes f.head.name name.now) fs }
 {
     let mut place = columns.at;
     for i in 0..columns.count {
@@ -57,14 +57,14 @@ fn find_name(s: &[u8], columns: Elements, name: &[u8]) -> Option<usize>
 
 // The columns of a sheet that was read.
 fn find_column(s: &[u8], name: &[u8]) -> Option<usize>
-    ensures { (x : Schema) → Fits x → s.now ≡ sheet_bytes x → result ≡ match_of (position (λ f. same_bytes f.head.name name.now) x.columns) }
+    ensures { (x : Schema) → Fits x → s.now ≡ sheet_bytes x → result ≡ position (λ f. same_bytes f.head.name name.now) x.columns }
 {
     find_name(s, walk::find_columns(s, 0), name)
 }
 
 // "`index_of` writes a u16."
 fn answer_match(m: Option<usize>, work: &mut [u8], answer: &mut [u8]) -> Result<usize, Refusal>
-    ensures { (f : Found) → m ≡ match_of f → Narrow f → leaves result answer.new work.new ≡ settled (and_then (if_found f) bytes) (zeros (length work.old)) answer.old }
+    ensures { Narrow m → leaves result answer.new work.new ≡ settled (and_then (if_found m) bytes) (zeros (length work.old)) answer.old }
 {
     match m {
         Some(i) => buffer::accept_u16(work, answer, i),

@@ -9,35 +9,32 @@ use Rattle.std.proofs.lemmas.Iterator.Adapters.{position_from-zero}
 use Rattle.std.specs.List.{position_from}
 use Rattle.std.specs.Prelude as std
 use Rattle.std.specs.Option.{option_map}
-use Rattle.model.specs.Bytes.{Found, found, missing, onward, choose, position}
-use Rattle.unions.specs.Answers.{found_of}
-use Rattle.unions.specs.declared.Position.{Position}
+use Rattle.model.specs.Bytes.{onward, choose, position}
 
 -- a position counted from i
-counted : ℕ → Found → Option Position
-counted i (found j) = Some (record { 0 = i + j })
-counted i missing = None
+counted : ℕ → Option ℕ → Option ℕ
+counted i r = option_map (λ j. i + j) r
 
-counted_next : (i : ℕ) (f : Found) → counted (i + 1) f ≡ counted i (onward f)
+counted_next : (i : ℕ) (r : Option ℕ) → counted (i + 1) r ≡ counted i (onward r)
 unfolding counted onward
-counted_next i (found j) = let e : i + 1 + j ≡ i + suc j = omega arith in ap (λ k. Some (record { 0 = k })) e
-counted_next i missing = refl
+counted_next i (Some j) = let e : i + 1 + j ≡ i + suc j = omega arith in ap (λ k. Some k) e
+counted_next i None = refl
 
-counted_start : (f : Found) → counted 0 f ≡ found_of f
+counted_start : (r : Option ℕ) → counted 0 r ≡ r
 unfolding counted
-counted_start (found j) = let e : 0 + j ≡ j = omega arith in ap (λ k. Some (record { 0 = k })) e
-counted_start missing = refl
+counted_start (Some j) = let e : 0 + j ≡ j = omega arith in ap (λ k. Some k) e
+counted_start None = refl
 
 module _ {A : Type 0} (p : A → Bool) where
-  from_found : (i : ℕ) (xs : List A) → option_map (λ k. record { 0 = k }) (position_from p i xs) ≡ counted i (position p xs)
+  from_position : (i : ℕ) (xs : List A) → position_from p i xs ≡ counted i (position p xs)
   unfolding counted position choose
-  from_found i [] = refl
-  from_found i (x ∷ xs) = go (p x) (from_found (i + 1) xs ∙ counted_next i (position p xs))
+  from_position i [] = refl
+  from_position i (x ∷ xs) = go (p x) (from_position (i + 1) xs ∙ counted_next i (position p xs))
     where
-      go : (b : Bool) → option_map (λ k. record { 0 = k }) (position_from p (i + 1) xs) ≡ counted i (onward (position p xs))
-          → option_map (λ k. record { 0 = k }) (cond b (Some i) (position_from p (i + 1) xs)) ≡ counted i (choose b (λ u. found 0) λ u. onward (position p xs))
-      go true e = let e : i ≡ i + 0 = omega arith in ap (λ k. Some (record { 0 = k })) e
+      go : (b : Bool) → position_from p (i + 1) xs ≡ counted i (onward (position p xs))
+          → cond b (Some i) (position_from p (i + 1) xs) ≡ counted i (choose b (λ u. Some 0) λ u. onward (position p xs))
+      go true e = let e : i ≡ i + 0 = omega arith in ap (λ k. Some k) e
       go false e = e
 
-  pub position_found : (xs : List A) → option_map (λ k. record { 0 = k }) (std.position p xs) ≡ found_of (position p xs)
-  position_found xs = ap (option_map λ k. record { 0 = k }) (position_from-zero p xs) ∙ from_found 0 xs ∙ counted_start (position p xs)
+  pub position_is : (xs : List A) → std.position p xs ≡ position p xs
+  position_is xs = position_from-zero p xs ∙ from_position 0 xs ∙ counted_start (position p xs)

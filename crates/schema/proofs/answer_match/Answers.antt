@@ -8,4 +8,4 @@ pub returns-in-Some : goal.returns-in-Some
 returns-in-Some c = index_written _ _ c.in-Some.is c.accept_u16.ensures
 
 pub returns-in-None : goal.returns-in-None
-returns-in-None c = index_missing _ _ c.in-None.is (c.refuse.ensures.0 ∙ ap Err c.from.ensures) c.refuse.ensures.1
+returns-in-None c = λ w. index_missing _ _ c.in-None.is (c.refuse.ensures.0 ∙ ap Err c.from.ensures) c.refuse.ensures.1

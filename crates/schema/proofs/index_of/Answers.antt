@@ -3,7 +3,7 @@ use Rattle.model.specs.Schema.{index_of}
 use Rattle.model.specs.Call.{index_of_answer}
 use Rattle.buffer.proofs.Ends.{handed_up, call_short, call_refused, call_settled, settled_as}
 use Rattle.sheet.proofs.Reading.{sheet_refused, sheet_whole}
-use Rattle.schema.proofs.Names.{narrow_found}
+use Rattle.schema.proofs.Names.{narrow_found, answer_of_position}
 use Rattle.schema.proofs.index_of.Goals as goal
 
 pub returns-in_err-work_fits : goal.returns-in_err-work_fits
@@ -18,4 +18,5 @@ pub returns-in-Ok : goal.returns-in-Ok
 unfolding index_of_answer index_of
 returns-in-Ok c =
     let w = sheet_whole _ _ c.read_sheet.ensures (λ k. (c.type_inv.sheet k).fits) c.in-Ok.is in
-    call_settled _ _ _ _ c.work_fits.ensures c.in_ok-work_fits.was (settled_as _ _ w.outcome (c.answer_match.ensures _ (c.find_column.ensures w.schema w.fits w.bytes) (narrow_found w.schema w.fits _)))
+    let found = c.find_column.ensures w.schema w.fits w.bytes in
+    call_settled _ _ _ _ c.work_fits.ensures c.in_ok-work_fits.was (settled_as _ _ w.outcome (answer_of_position _ _ found c.answer_match.ensures (narrow_found w.schema w.fits _)))
