@@ -1,31 +1,45 @@
 // Reading the stored list. An input that ends too early is an error, and so are bytes that pass the buffer for them.
-ghost use Rattle.std.specs.Prelude.{◌≤◌, length, IfOk};
+ghost use Rattle.std.specs.Prelude.{◌≤◌, [], ◌∷◌, length, IfOk};
+ghost use Rattle.std.specs.Io.KnownBytes.{Consumes};
+ghost use Rattle.std.specs.Int.{to_le_bytes, w16, w32};
 
 use std::io;
 use std::io::{ErrorKind, Read};
 
 // So many bytes as they stand in the list.
-fn next<const N: usize>(input: &mut impl Read) -> io::Result<[u8; N]> {
+fn next<const N: usize, R: Read>(input: &mut R) -> io::Result<[u8; N]>
+    ensures { IfOk result (λ bytes. Consumes (R.remaining input.old) (R.remaining input.new) bytes) }
+{
     let mut bytes = [0; N];
     input.read_exact(&mut bytes)?;
     Ok(bytes)
 }
 
-pub fn next_u8(input: &mut impl Read) -> io::Result<u8> {
+pub fn next_u8<R: Read>(input: &mut R) -> io::Result<u8>
+    ensures { IfOk result (λ b. Consumes (R.remaining input.old) (R.remaining input.new) (b ∷ [])) }
+{
     Ok(u8::from_le_bytes(next(input)?))
 }
 
-pub fn next_u16(input: &mut impl Read) -> io::Result<u16> {
+#[tactic(auto, using(std::proofs::lemmas::Nat::le_bytes_2))]
+pub fn next_u16<R: Read>(input: &mut R) -> io::Result<u16>
+    ensures { IfOk result (λ n. Consumes (R.remaining input.old) (R.remaining input.new) (to_le_bytes w16 n)) }
+{
     Ok(u16::from_le_bytes(next(input)?))
 }
 
 // A number of four bytes.
-pub fn next_usize(input: &mut impl Read) -> io::Result<usize> {
+#[tactic(auto, using(std::proofs::lemmas::Nat::le_bytes_4))]
+pub fn next_usize<R: Read>(input: &mut R) -> io::Result<usize>
+    ensures { IfOk result (λ n. Consumes (R.remaining input.old) (R.remaining input.new) (to_le_bytes w32 n)) }
+{
     Ok(u32::from_le_bytes(next(input)?) as usize)
 }
 
 // A buffer of the length that comes next in the list.
-pub fn next_room<'a>(input: &mut impl Read, space: &'a mut [u8]) -> io::Result<&'a mut [u8]> {
+pub fn next_room<'a, R: Read>(input: &mut R, space: &'a mut [u8]) -> io::Result<&'a mut [u8]>
+    ensures { IfOk result (λ room. Consumes (R.remaining input.old) (R.remaining input.new) (to_le_bytes w32 (length room.now))) }
+{
     let length = next_usize(input)?;
     Ok(space.get_mut(..length).ok_or(ErrorKind::InvalidData)?)
 }

@@ -1,4 +1,8 @@
 // The operations of the list.
+ghost use Rattle.std.specs.Prelude.{◌≡◌};
+ghost use Rattle.buffer.specs.Leaves.{leaves};
+ghost use Rattle.replay.specs.Calls.{call_of};
+
 use buffer::Refusal;
 use std::fmt;
 
@@ -48,12 +52,15 @@ impl Operation {
         Operation::MergeParkedFirst,
     ];
 
+    // The call of that name.
     pub fn call(
         self,
         request: Request<'_>,
         work: &mut [u8],
         answer: &mut [u8],
-    ) -> Result<usize, Refusal> {
+    ) -> Result<usize, Refusal>
+        ensures { leaves result answer.new work.new ≡ call_of self request.entry.first.now request.entry.second.now request.entry.number work.old answer.old }
+    {
         let Request {
             first,
             second,

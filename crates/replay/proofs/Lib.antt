@@ -1,0 +1,2 @@
+-- The law that the proof of `Operation::call` uses.
+mod Kept

@@ -1,0 +1,2 @@
+-- What the operations of the list are.
+pub mod Calls
