@@ -86,38 +86,54 @@ pub fn put_u16(dst: &mut [u8], at: usize, v: usize)
     copy_in(dst, at, &two_bytes(v));
 }
 
-// Writes bytes from a position on where they fit, and gives the position behind them either way; a position above MAX_ANSWER_BYTES says
-// that they pass the longest answer. A call that writes a sheet writes it twice: into a buffer of no bytes for its length, then into the
+// An answer as it is put together: the buffer for it, and how many bytes were put, also where they found no room. More than MAX_ANSWER_BYTES
+// say that they pass the longest answer. A call that writes a sheet writes it twice: into a buffer of no bytes for its length, then into the
 // answer buffer.
-pub fn put(dst: &mut [u8], at: usize, src: &[u8]) -> usize
-    ensures { Puts src.now dst.old at dst.new result }
-{
-    if MAX_ANSWER_BYTES < at {
-        return at;
-    }
-    if MAX_ANSWER_BYTES - at < src.len() {
-        return MAX_ANSWER_BYTES + 1;
-    }
-    let end = at + src.len();
-    if dst.len() < end {
-        return end;
-    }
-    copy_in(dst, at, src);
-    end
+#[derive(Drop)]
+pub struct Output<'a> {
+    buffer: &'a mut [u8],
+    pub written: usize,
 }
 
-// One byte.
-pub fn put_one(dst: &mut [u8], at: usize, b: u8) -> usize
-    ensures { Puts (b ∷ []) dst.old at dst.new result }
-{
-    put(dst, at, &[b])
-}
+impl<'a> Output<'a> {
+    // Nothing was put yet.
+    pub fn new(buffer: &'a mut [u8]) -> Self
+        ensures { (result.buffer.ghost_name ≡ buffer.entry.ghost_name) × (result.buffer.now ≡ buffer.old) × (result.written ≡ 0) }
+    {
+        Self { buffer, written: 0 }
+    }
 
-// The two lower bytes of a number. A count above 65,535 stands in no accepted answer, since its elements pass the longest one.
-pub fn put_two(dst: &mut [u8], at: usize, v: usize) -> usize
-    ensures { Puts (v % 256 ∷ v / 256 % 256 ∷ []) dst.old at dst.new result }
-{
-    put(dst, at, &two_bytes(v))
+    // Bytes behind those that were put, written where they fit.
+    pub fn put(&mut self, src: &[u8])
+        ensures { Puts src.now self.old self.new }
+    {
+        if MAX_ANSWER_BYTES < self.written {
+            return;
+        }
+        let from = self.written;
+        if MAX_ANSWER_BYTES - from < src.len() {
+            self.written = MAX_ANSWER_BYTES + 1;
+            return;
+        }
+        self.written = from + src.len();
+        if self.written <= self.buffer.len() {
+            copy_in(self.buffer, from, src);
+        }
+    }
+
+    // One byte.
+    pub fn put_one(&mut self, b: u8)
+        ensures { Puts (b ∷ []) self.old self.new }
+    {
+        self.put(&[b]);
+    }
+
+    // The two lower bytes of a number. A count above 65,535 stands in no accepted answer, since its elements pass the longest one.
+    pub fn put_two(&mut self, v: usize)
+        ensures { Puts (v % 256 ∷ v / 256 % 256 ∷ []) self.old self.new }
+    {
+        self.put(&two_bytes(v));
+    }
 }
 
 // 32, unless a work buffer of `work` bytes is enough for `given` sheet bytes. The product might not fit, so the quotient is compared.

@@ -1,7 +1,7 @@
 -- Stretches of bytes, texts, names and metadata, where they stand.
 use Prim.Native.Nat.{ℕ, ◌+◌, ◌-◌, ◌<◌, ◌≤◌}
 use native.Mathlib.Omega.{arith}
-use mathlib.Core.Path.{◌≡◌, refl, sym, ap, ◌∙◌}
+use mathlib.Core.Path.{◌≡◌, refl, sym, ap, subst, ◌∙◌}
 use mathlib.Core.List.{[], ◌∷◌, ◌++◌, append_assoc}
 use mathlib.Core.Bool.{Bool, true, false, not, ◌&&◌, false≢true}
 use lib.ListN.{length, take, drop, get_or, length-append, take-append-drop}
@@ -99,13 +99,9 @@ abbrev PairsIf : Bytes → ℕ → Bool → ℕ → ℕ → Type 0
 PairsIf s place set n first = (m : Metadata) → stands m ≡ set → Stands s place (part (with_count pair_bytes) m) → PairsAt s m n first
 
 module _ {s : Bytes} {place : ℕ} where
-  pub pairs_some : {set : Bool} {n first : ℕ} → set ≡ true → n ≡ two_at s place → Ahead s place 2 first → PairsIf s place set n first
-  pairs_some e c u [] h st = absurd (false≢true (h ∙ e))
-  pairs_some e c u (p ∷ m) h st = record { count = sym (c ∙ count_stands pair_bytes (p ∷ m) st); stands = elements_stand pair_bytes (p ∷ m) u st }
-
-  pub pairs_none : {set : Bool} → set ≡ false → PairsIf s place set 0 place
-  pairs_none e [] h st = record { count = refl; stands = st }
-  pairs_none e (p ∷ m) h st = absurd (false≢true (sym e ∙ sym h))
+  pub pairs_found : {set : Bool} {n first : ℕ} → (set ≡ true → (n ≡ two_at s place) × Ahead s place 2 first) → (set ≡ false → (n ≡ 0) × (first ≡ place)) → PairsIf s place set n first
+  pairs_found some none [] h st = let (c, e) = none (sym h) in record { count = sym c; stands = subst (λ p. Stands s p []) (sym e) st }
+  pairs_found some none (p ∷ m) h st = let (c, u) = some (sym h) in record { count = sym (c ∙ count_stands pair_bytes (p ∷ m) st); stands = elements_stand pair_bytes (p ∷ m) u st }
 
 -- A name with its length, as a head has it
 

@@ -109,16 +109,6 @@ pub fn contains_metadata(s: &[u8], all: Elements, t: &[u8], asked: Elements) -> 
     true
 }
 
-// Metadata under a bit of a map: nothing stands for none.
-fn pairs_if(s: &[u8], at: usize, set: bool) -> Elements
-    ensures { (m : Metadata) → stands m ≡ set → Stands s.now at (part (with_count pair_bytes) m) → PairsAt s.now m result.count result.at }
-{
-    if set {
-        return Elements::counted(s, at);
-    }
-    Elements { count: 0, at }
-}
-
 // The metadata of a field.
 pub fn of_head(s: &[u8], at: usize) -> Elements
     ensures { (h : Head) → Stands s.now at (head_bytes h) → PairsAt s.now h.metadata result.count result.at }
@@ -126,7 +116,7 @@ pub fn of_head(s: &[u8], at: usize) -> Elements
     let map = walk::byte(s, at);
     let name = walk::ahead(s, at, 1);
     let place = walk::skip_if(s, name, walk::bit(map, 2), walk::skip_text);
-    pairs_if(s, place, walk::bit(map, 3))
+    Elements::counted_if(s, place, walk::bit(map, 3))
 }
 
 // The metadata of a sheet's schema.
@@ -135,5 +125,5 @@ pub fn of_sheet(s: &[u8], at: usize) -> Elements
 {
     let map = walk::byte(s, at);
     let place = walk::ahead(s, at, 1);
-    pairs_if(s, place, walk::bit(map, 0))
+    Elements::counted_if(s, place, walk::bit(map, 0))
 }

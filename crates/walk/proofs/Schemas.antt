@@ -1,63 +1,53 @@
 -- Where the columns of a sheet stand.
-use Prim.Native.Nat.{ℕ, ◌≤◌, ◌<◌}
+use Prim.Native.Nat.{ℕ, ◌+◌, ◌≤◌, ◌<◌}
 use native.Mathlib.Omega.{arith}
-use mathlib.Core.Path.{◌≡◌, refl, sym, ap, ◌∙◌}
+use mathlib.Core.Path.{◌≡◌, refl, sym, ap, subst, ◌∙◌}
 use mathlib.Core.List.{List, [], ◌∷◌}
-use mathlib.Core.Bool.{Bool, true, false, false≢true}
+use mathlib.Core.Bool.{Bool, true, false}
 use lib.ListN.{length, get_or, length-append}
 use Rattle.model.specs.Numbers.{max_levels}
 use Rattle.model.specs.Bytes.{Bytes, Metadata, u16, bit}
 use Rattle.model.specs.Tree.{Field, Schema}
 use Rattle.model.specs.Sheet.{front_bytes, dict_id_bytes, each, part, stands, with_count, pair_bytes, head_bytes, field_bytes, type_bytes, column_bytes, sheet_bytes}
-use Rattle.walk.specs.Stands.{Stands, Skips, SkipsRow, ColumnsAt, SkipsSheet}
+use Rattle.walk.specs.Stands.{Stands, Skips, SkipsRow, SkipsSheetHead, ColumnsAt, SkipsSheet}
 use Rattle.walk.proofs.Standing.{byte_stands, stands_behind, skip_ahead, skip_join, skip_self}
 use Rattle.walk.proofs.Descents.{count_stands, elements_stand}
 use Rattle.walk.proofs.Parts.{Ahead, two_at, part_if, sheet_metadata_set, sheet_columns_set}
 
-module _ {s : Bytes} {place map metadata first : ℕ} {set : Bool} (e : map ≡ get_or s place 0) (a : Ahead s place 1 metadata)
-    (i : set ≡ bit 0 map) (f : set ≡ true → (m : Metadata) → Skips s metadata (with_count pair_bytes m) first) (g : set ≡ false → first ≡ metadata) where
-  -- the map and the metadata, where a sheet stands
-  front : (m : Metadata) (cs : List (Field max_levels)) → Stands s place (sheet_bytes (record { metadata = m; columns = cs }))
-      → Skips s metadata (part (with_count pair_bytes) m) first
-  unfolding sheet_bytes
-  front m cs st = part_if (with_count pair_bytes) set f g m (sym (i ∙ ap (bit 0) (e ∙ byte_stands st) ∙ sheet_metadata_set (stands m) (stands cs)))
+-- the map and the metadata, where a sheet stands
+pub head_skips : {s : Bytes} {place map metadata first : ℕ} {set : Bool} → map ≡ get_or s place 0 → Ahead s place 1 metadata → set ≡ bit 0 map
+    → (set ≡ true → (m : Metadata) → Skips s metadata (with_count pair_bytes m) first) → (set ≡ false → first ≡ metadata) → SkipsSheetHead s place first
+unfolding sheet_bytes
+head_skips {set = set} e a i f g x st =
+    skip_join (skip_ahead (_ ∷ []) refl a.1)
+    (part_if (with_count pair_bytes) set f g x.metadata (sym (i ∙ ap (bit 0) (e ∙ byte_stands st) ∙ sheet_metadata_set (stands x.metadata) (stands x.columns))))
 
-  columns_bit : (m : Metadata) (cs : List (Field max_levels)) → Stands s place (sheet_bytes (record { metadata = m; columns = cs }))
-      → bit 1 map ≡ stands cs
+-- the columns behind them
+module _ {s : Bytes} {place map first : ℕ} {k : Bool} (e : map ≡ get_or s place 0) (head : SkipsSheetHead s place first) (j : k ≡ bit 1 map) where
+  -- whether there are any
+  pub columns_bit : (x : Schema) → Stands s place (sheet_bytes x) → k ≡ stands x.columns
   unfolding sheet_bytes
-  columns_bit m cs st = ap (bit 1) (e ∙ byte_stands st) ∙ sheet_columns_set (stands m) (stands cs)
+  columns_bit x st = j ∙ ap (bit 1) (e ∙ byte_stands st) ∙ sheet_columns_set (stands x.metadata) (stands x.columns)
 
-  pub columns_some : {k : Bool} {n at : ℕ} → k ≡ bit 1 map → k ≡ true → n ≡ two_at s first → Ahead s first 2 at → (x : Schema) → Stands s place (sheet_bytes x) → ColumnsAt s place x n at
+  pub columns_found : {n at : ℕ} → (k ≡ true → (n ≡ two_at s first) × Ahead s first 2 at) → (k ≡ false → (n ≡ 0) × (at ≡ first)) → (x : Schema) → Stands s place (sheet_bytes x) → ColumnsAt s place x n at
   unfolding sheet_bytes with_count u16
-  columns_some {n = n} {at = at} j h c b x st = go x.metadata x.columns st
+  columns_found {n} {at} some none x st = go x.metadata x.columns st
     where
       go : (m : Metadata) (cs : List (Field max_levels)) → Stands s place (sheet_bytes (record { metadata = m; columns = cs })) → ColumnsAt s place (record { metadata = m; columns = cs }) n at
-      go m [] st = absurd (false≢true (sym (columns_bit m [] st) ∙ sym j ∙ h))
+      go m [] st =
+          let q = head (record { metadata = m; columns = [] }) st in
+          let (c, f) = none (columns_bit (record { metadata = m; columns = [] }) st) in
+          record { count = c; stands = subst (λ p. Stands s p []) (sym f) (stands_behind q st); ends = ap (λ p. p + 0) f ∙ (skip_join q skip_self).behind st }
       go m (x ∷ cs) st =
-          let p = skip_ahead (_ ∷ []) refl a.1 in
-          let q = front m (x ∷ cs) st in
-          let st' = stands_behind q (stands_behind p st) in
+          let q = head (record { metadata = m; columns = x ∷ cs }) st in
+          let (c, b) = some (columns_bit (record { metadata = m; columns = x ∷ cs }) st) in
+          let st' = stands_behind q st in
           let u = skip_ahead (u16 (length (x ∷ cs))) refl b.1 in
           record {
             count = c ∙ count_stands column_bytes (x ∷ cs) st';
             stands = elements_stand column_bytes (x ∷ cs) b st';
-            ends = (skip_join p (skip_join q (skip_join u skip_self))).behind st;
+            ends = (skip_join q (skip_join u skip_self)).behind st;
           }
-
-  pub columns_none : {k : Bool} → k ≡ bit 1 map → k ≡ false → (x : Schema) → Stands s place (sheet_bytes x) → ColumnsAt s place x 0 first
-  unfolding sheet_bytes
-  columns_none j h x st = go x.metadata x.columns st
-    where
-      go : (m : Metadata) (cs : List (Field max_levels)) → Stands s place (sheet_bytes (record { metadata = m; columns = cs })) → ColumnsAt s place (record { metadata = m; columns = cs }) 0 first
-      go m [] st =
-          let p = skip_ahead (_ ∷ []) refl a.1 in
-          let q = front m [] st in
-          record {
-            count = refl;
-            stands = stands_behind q (stands_behind p st);
-            ends = (skip_join p (skip_join q skip_self)).behind st;
-          }
-      go m (x ∷ cs) st = absurd (false≢true (sym h ∙ j ∙ columns_bit m (x ∷ cs) st))
 
 -- the columns reach to the end of the sheet
 pub sheet_skips : {s : Bytes} {place n first r : ℕ} → ((x : Schema) → Stands s place (sheet_bytes x) → ColumnsAt s place x n first) → SkipsRow s first n 0 max_levels r → SkipsSheet s place r

@@ -1,9 +1,9 @@
 -- Bytes that stand at a place of a sheet, and the place behind them; what the functions of `walk` give of each part.
 use Rattle.std.specs.Prelude.{ℕ, ◌+◌, ◌≤◌, ◌≡◌, List, ◌∷◌, ◌++◌, Bool, length, drop}
 use Rattle.model.specs.Numbers.{max_levels}
-use Rattle.model.specs.Bytes.{Bytes, Every}
+use Rattle.model.specs.Bytes.{Bytes, Every, flag}
 use Rattle.model.specs.Tree.{Head, DataType, Field, Schema, Children}
-use Rattle.model.specs.Sheet.{each, field_bytes, children_bytes, type_bytes, column_bytes, sheet_bytes}
+use Rattle.model.specs.Sheet.{each, part, stands, with_count, pair_bytes, field_bytes, children_bytes, type_bytes, column_bytes, sheet_bytes}
 use Rattle.model.specs.WellFormed.{CountFits, LaidOut}
 use Rattle.model.specs.Datatype.{is_nested}
 
@@ -48,6 +48,14 @@ abbrev pub TellsNested : (s : Bytes) (place levels : ℕ) → Bool → Type 0
 TellsNested s place levels r = (l : ℕ) (t : DataType l) → l ≤ levels → LaidOut l t → Stands s place (type_bytes l t) → r ≡ is_nested l t
 
 -- Sheets
+
+-- the map and the metadata
+abbrev pub sheet_head : Schema → Bytes
+sheet_head x = (flag 1 (stands x.metadata) + flag 2 (stands x.columns)) ∷ part (with_count pair_bytes) x.metadata
+
+-- where a sheet stands at a place, r is the place behind its map and metadata
+abbrev pub SkipsSheetHead : (s : Bytes) (place r : ℕ) → Type 0
+SkipsSheetHead s place r = (x : Schema) → Stands s place (sheet_bytes x) → Skips s place (sheet_head x) r
 
 -- of a schema whose sheet stands at a place: the number of columns, and where the first stands; they reach to the sheet's end
 pub record ColumnsAt (s : Bytes) (place : ℕ) (x : Schema) (n first : ℕ) : Type 0 where

@@ -11,10 +11,11 @@ ghost use Rattle.model.specs.Sheet.{front_bytes, each, with_count, text_bytes, p
 ghost use Rattle.model.specs.WellFormed.{WellFormedParams};
 ghost use Rattle.model.specs.Datatype.{holds_fields};
 ghost use Rattle.buffer.specs.Puts.{Puts};
-ghost use Rattle.walk.specs.Stands.{Stands, Skips, SkipsType, SkipsField, SkipsRow, SkipsChildren, TellsNested, ColumnsAt, SkipsSheet};
+ghost use Rattle.walk.specs.Stands.{Stands, Skips, SkipsType, SkipsField, SkipsRow, SkipsChildren, TellsNested, SkipsSheetHead, ColumnsAt, SkipsSheet};
 ghost use Rattle.layout.specs.Kinds.{params_of};
 ghost use Rattle.walk.specs.Widths.{width};
 
+use buffer::Output;
 use layout::{ChildrenKind, DICTIONARY, LIST, MAP, ParamsKind, RUN_END_ENCODED, UNION};
 use sheet::Cursor;
 
@@ -70,6 +71,17 @@ impl Elements {
             count: two(s, at),
             at: ahead(s, at, 2),
         }
+    }
+
+    // Those that stand behind their count under a bit of a map: none, with no count either, where it is not set.
+    pub fn counted_if(s: &[u8], at: usize, set: bool) -> Self
+        ensures set { set ≡ true → (result.count ≡ get_or s.now at 0 + 256 * get_or s.now (at + 1) 0) × ((result.at ≤ length s.now) × (at + 2 ≤ length s.now → result.at ≡ at + 2)) }
+        ensures unset { set ≡ false → (result.count ≡ 0) × (result.at ≡ at) }
+    {
+        if set {
+            return Self::counted(s, at);
+        }
+        Self { count: 0, at }
     }
 }
 
@@ -230,20 +242,21 @@ pub fn skip_fields(s: &[u8], fields: Elements, before: usize, levels: usize) -> 
     place
 }
 
+// A sheet's map and the schema's metadata.
+pub fn skip_sheet_head(s: &[u8], at: usize) -> usize
+    ensures { SkipsSheetHead s.now at result }
+{
+    let map = byte(s, at);
+    let metadata = ahead(s, at, 1);
+    skip_if(s, metadata, bit(map, 0), skip_metadata)
+}
+
 // The columns of a sheet.
 pub fn find_columns(s: &[u8], at: usize) -> Elements
     ensures { (x : Schema) → Stands s.now at (sheet_bytes x) → ColumnsAt s.now at x result.count result.at }
 {
-    let map = byte(s, at);
-    let metadata = ahead(s, at, 1);
-    let place = skip_if(s, metadata, bit(map, 0), skip_metadata);
-    if bit(map, 1) {
-        return Elements::counted(s, place);
-    }
-    Elements {
-        count: 0,
-        at: place,
-    }
+    let place = skip_sheet_head(s, at);
+    Elements::counted_if(s, place, bit(byte(s, at), 1))
 }
 
 // A sheet, as it stands in a train.
@@ -253,14 +266,13 @@ pub fn skip_sheet(s: &[u8], at: usize) -> usize
     skip_fields(s, find_columns(s, at), 0, Cursor::LEVELS)
 }
 
-// Copies what stands between two places of a sheet.
-pub fn put_part(w: &mut [u8], pos: usize, s: &[u8], from: usize, to: usize) -> usize
-    ensures { (b : Bytes) → Stands s.now from b → to ≡ from + length b → Puts b w.old pos w.new result }
+// Puts what stands between two places of a sheet.
+pub fn put_part(out: &mut Output<'_>, s: &[u8], from: usize, to: usize)
+    ensures { (b : Bytes) → Stands s.now from b → to ≡ from + length b → Puts b out.old out.new }
 {
-    let Some(part) = s.get(from..to) else {
-        return pos;
-    };
-    buffer::put(w, pos, part)
+    if let Some(part) = s.get(from..to) {
+        out.put(part);
+    }
 }
 
 // Whether a type of this code holds fields of the column's own values.
