@@ -6,7 +6,8 @@ use mathlib.Core.List.{List, [], ◌∷◌}
 use mathlib.Core.Bool.{Bool, true, false}
 use lib.ListN.{length}
 use Rattle.std.proofs.Common.{Option, Some, None}
-use Rattle.model.specs.Bytes.{Bytes, Every, choose, Found, found, missing, onward, position}
+use Rattle.model.specs.Bytes.{Bytes, Every, choose, onward, position}
+use Rattle.model.proofs.Search.{from, from_next, from_start}
 use Rattle.model.specs.Tree.{Field}
 use Rattle.model.specs.Sheet.{each, field_bytes, type_bytes}
 use Rattle.model.specs.WellFormed.{LaidOut, Whole}
@@ -14,23 +15,8 @@ use Rattle.model.specs.Equal.{same_field, same_type}
 use Rattle.walk.specs.Stands.{Stands, SkipsField, member_bytes}
 use Rattle.walk.proofs.Standing.{stands_behind, skip_ahead, skip_join}
 use Rattle.walk.proofs.Parts.{Ahead}
-use Rattle.datatype.specs.Answers.{match_of, TestedBy}
+use Rattle.datatype.specs.Answers.{TestedBy}
 use Rattle.datatype.proofs.Seeks.{Seeks, seeks_begin, seeks_again, seeks_stop, seeks_done}
-
--- a position counted from another
-pub from : ℕ → Found → Found
-from i (found j) = found (i + j)
-from i missing = missing
-
-from_next : (i : ℕ) (f : Found) → from i (onward f) ≡ from (i + 1) f
-unfolding from onward
-from_next i (found j) = ap found (omega arith)
-from_next i missing = refl
-
-from_start : (f : Found) → from 0 f ≡ f
-unfolding from
-from_start (found j) = ap found (omega arith)
-from_start missing = refl
 
 -- the answers that a call may give at a place
 abbrev Answers : Type 1
@@ -43,12 +29,12 @@ Told answers s l test k = LaidOut l k.data_type × TestedBy answers s l test k
 -- i are passed, none of which passes the test: the position is that among those behind them, counted from i
 abbrev pub Finding : Answers → (s : Bytes) (first count levels place i : ℕ) → Type 0
 Finding answers s first count levels place i = (l : ℕ) (test : Field l → Bool) → l ≤ levels
-    → Seeks (Told answers s l test) (member_bytes l) s (λ ks. match_of (from 0 (position test ks))) (λ ks. match_of (from i (position test ks))) first count place i
+    → Seeks (Told answers s l test) (member_bytes l) s (λ ks. from 0 (position test ks)) (λ ks. from i (position test ks)) first count place i
 
 -- what `find_child` ensures
 abbrev pub Finds : Answers → (s : Bytes) (first count levels : ℕ) → Option ℕ → Type 0
 Finds answers s first count levels r = (l : ℕ) (test : Field l → Bool) (ks : List (Field l)) → l ≤ levels → length ks ≡ count → Every (Told answers s l test) ks
-    → Stands s first (each (member_bytes l) ks) → r ≡ match_of (position test ks)
+    → Stands s first (each (member_bytes l) ks) → r ≡ position test ks
 
 module _ (answers : Answers) (s : Bytes) (levels : ℕ) where
   pub find_begin : (first count : ℕ) → Finding answers s first count levels first 0
@@ -60,7 +46,7 @@ module _ (answers : Answers) (s : Bytes) (levels : ℕ) where
       unfolding position choose
       find_again e u f l test m =
           seeks_again (Told answers s l test) (member_bytes l) s (k l test m) h (λ x w. skip_join (skip_ahead (_ ∷ []) refl u.1) (f l x m w.0)) λ x xs w st.
-          ap (λ b. match_of (from i (choose b (λ u. found 0) λ u. onward (position test xs)))) (sym (w.1 place b st a) ∙ e) ∙ ap match_of (from_next i (position test xs))
+          ap (λ b. from i (choose b (λ u. Some 0) λ u. onward (position test xs))) (sym (w.1 place b st a) ∙ e) ∙ from_next i (position test xs)
 
       pub find_found : b ≡ true → Finds answers s first count levels (Some i)
       unfolding position choose from
@@ -68,12 +54,12 @@ module _ (answers : Answers) (s : Bytes) (levels : ℕ) where
           seeks_stop (Told answers s l test) (member_bytes l) s (k l test m) h
           (λ x xs v u.
           let z : i ≡ i + 0 = omega arith in
-          ap Some z ∙ sym (ap (λ b. match_of (from i (choose b (λ u. found 0) λ u. onward (position test xs)))) (sym (v.1 place b u a) ∙ e))) ks n w st
-          ∙ ap match_of (from_start (position test ks))
+          ap (λ k. Some k) z ∙ sym (ap (λ b. from i (choose b (λ u. Some 0) λ u. onward (position test xs))) (sym (v.1 place b u a) ∙ e))) ks n w st
+          ∙ from_start (position test ks)
 
     pub find_none : count ≤ i → Finds answers s first count levels None
     unfolding position from
-    find_none h l test ks m n w st = seeks_done (Told answers s l test) (member_bytes l) s (k l test m) h refl ks n w st ∙ ap match_of (from_start (position test ks))
+    find_none h l test ks m n w st = seeks_done (Told answers s l test) (member_bytes l) s (k l test m) h refl ks n w st ∙ from_start (position test ks)
 
 -- By equal field
 

@@ -1,12 +1,8 @@
--- What a look-up gives: the definition's position, or none.
-use Rattle.std.specs.Prelude.{ℕ, ◌≡◌, Bool, Option, Some, None}
-use Rattle.model.specs.Bytes.{Bytes, Found, found, missing}
+-- What a look-up asks of the test that it is given.
+use Rattle.std.specs.Prelude.{ℕ, ◌≡◌, Bool}
+use Rattle.model.specs.Bytes.{Bytes}
 use Rattle.model.specs.Tree.{Field}
 use Rattle.walk.specs.Stands.{Stands, member_bytes}
-
-abbrev pub match_of : Found → Option ℕ
-match_of (found i) = Some i
-match_of missing = None
 
 -- a call at the place of a union child answers as the test of the child does
 abbrev pub TestedBy : (answers : ℕ → Bool → Type 0) → Bytes → (l : ℕ) → (Field l → Bool) → Field l → Type 0

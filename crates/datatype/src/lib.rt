@@ -18,7 +18,7 @@ ghost use Rattle.model.specs.Unions.{find_by_type_id, find_by_field};
 ghost use Rattle.model.specs.Call.{equal_call, equals_datatype_call, contains_call, acceptance, is_nested_call};
 ghost use Rattle.buffer.specs.Leaves.{leaves};
 ghost use Rattle.walk.specs.Stands.{Stands, member_bytes};
-ghost use Rattle.datatype.specs.Answers.{match_of, TestedBy};
+ghost use Rattle.datatype.specs.Answers.{TestedBy};
 ghost use Rattle.datatype.specs.Comparisons.{compare_call};
 
 use buffer::Refusal;
@@ -58,7 +58,7 @@ fn find_child<F: Fn(usize) -> bool>(
     matches: F,
 ) -> Option<usize>
     requires { F.IsAlwaysCallable matches }
-    ensures { (l : ℕ) (test : Field l → Bool) (ks : List (Field l)) → l ≤ levels → length ks ≡ members.count → Every (λ k. LaidOut l k.data_type × TestedBy (F.post matches) s.now l test k) ks → Stands s.now members.at (each (member_bytes l) ks) → result ≡ match_of (position test ks) }
+    ensures { (l : ℕ) (test : Field l → Bool) (ks : List (Field l)) → l ≤ levels → length ks ≡ members.count → Every (λ k. LaidOut l k.data_type × TestedBy (F.post matches) s.now l test k) ks → Stands s.now members.at (each (member_bytes l) ks) → result ≡ position test ks }
 {
     let mut place = members.at;
     for i in 0..members.count {
@@ -72,7 +72,7 @@ fn find_child<F: Fn(usize) -> bool>(
 
 // `UnionFields::find_by_type_id`: the first of so many union children that has this id.
 pub fn find_by_type_id(s: &[u8], members: Elements, id: usize, levels: usize) -> Option<usize>
-    ensures { (l : ℕ) (ks : List (Field l)) → l ≤ levels → length ks ≡ members.count → Every (λ k. LaidOut l k.data_type) ks → Stands s.now members.at (each (member_bytes l) ks) → result ≡ match_of (find_by_type_id ks id) }
+    ensures { (l : ℕ) (ks : List (Field l)) → l ≤ levels → length ks ≡ members.count → Every (λ k. LaidOut l k.data_type) ks → Stands s.now members.at (each (member_bytes l) ks) → result ≡ find_by_type_id ks id }
 {
     find_child(s, members, levels, |place| walk::byte(s, place) == id)
 }
@@ -85,7 +85,7 @@ pub fn find_by_field(
     field: usize,
     levels: usize,
 ) -> Option<usize>
-    ensures { (l : ℕ) (g : Field l) (ks : List (Field l)) → l ≤ levels → length ks ≡ members.count → Whole l g.data_type → Every (λ k. Whole l k.data_type) ks → Stands t.now field (field_bytes (type_bytes l) g) → Stands s.now members.at (each (member_bytes l) ks) → result ≡ match_of (find_by_field (same_type l) ks g) }
+    ensures { (l : ℕ) (g : Field l) (ks : List (Field l)) → l ≤ levels → length ks ≡ members.count → Whole l g.data_type → Every (λ k. Whole l k.data_type) ks → Stands t.now field (field_bytes (type_bytes l) g) → Stands s.now members.at (each (member_bytes l) ks) → result ≡ find_by_field (same_type l) ks g }
 {
     find_child(s, members, levels, |place| {
         same_field(s, walk::ahead(s, place, 1), t, field, levels)
