@@ -24,7 +24,7 @@ use Rattle.table.proofs.Entries.{SkipsEntries}
 use Rattle.emit.specs.Emission.{PutsHead, PutsType, PutsEntry, PutsEntries, PutsRow, HasEntries, CountsEntries}
 use Rattle.emit.proofs.Going.{Going, going_out, going_done, going_again, going_stuck}
 use Rattle.emit.proofs.Fronts.{place_is}
-use Rattle.emit.proofs.Putting.{Onward, onward_begin, onward_one, onward_done, onward_beyond, puts_counted_list}
+use Rattle.emit.proofs.Putting.{Onward, onward_one, onward_done, onward_beyond, puts_counted_list}
 
 -- an entry: the head, then the type behind it
 pub entry_puts : {s w : Bytes} (levels : ℕ) {place m first inner own : ℕ} {o o₁ o₂ : Output} → PutsHead s w place o o₁ → Ahead w place 1 m → first ≡ three w m
@@ -59,9 +59,6 @@ module _ (l : ℕ) (s : Bytes) where
   Left w G place = Going Entry (no_entry ∷ []) w G place
 
   module _ {w : Bytes} {place : ℕ} where
-    left_begin : {k : ℕ} {y : Bytes} (fs : List (Field l)) (G : List (Field l) → Type 0) → SpellRow l s k y fs → Stands w place y → G fs → Left w G place
-    left_begin fs G p st g = record { left = fs; bytes = p.row_bytes; room = p.row_room; rows = p.row; stands = subst (Stands w place) p.bytes st; goal = g }
-
     -- an entry does not begin as the end of a row does
     not_end : {i : ℕ} {b : Bytes} {x : Field l} (c : Bytes) → Entry i b x → Stands w place (b ++ c) → get_or w place 0 < 8
     not_end {x = x} c e st = let j = byte_stands (subst (λ b. Stands w place (b ++ c)) e.bytes st) in omega (arith, j, e.small_flags)
@@ -96,9 +93,6 @@ pub record Counting (w : Bytes) (first levels place count : ℕ) : Type 0 where
   pub left : (l : ℕ) (s : Bytes) (k : ℕ) (y : Bytes) (fs : List (Field l)) → l ≤ levels → SpellRow l s k y fs → Stands w first y → Left l s w (λ left. count + length left ≡ length fs) place
   pub low : count ≤ place
 
-pub counting_begin : (w : Bytes) (first levels : ℕ) → Counting w first levels first 0
-counting_begin w first levels = record { left = λ l s k y fs h p st. left_begin l s fs (λ left. 0 + length left ≡ length fs) p st (omega arith); low = omega arith }
-
 module _ {w : Bytes} {first levels place count : ℕ} (c : Counting w first levels place count) where
   pub counting_out : length w ≤ place → CountsEntries w first levels count
   counting_out h l s k y fs i p st = absurd (left_out l s (λ left. count + length left ≡ length fs) (c.left l s k y fs i p st) h)
@@ -122,11 +116,6 @@ module _ {w : Bytes} {first levels place count : ℕ} (c : Counting w first leve
 -- what is left of each row that stands from `first` on
 pub record Emitting (s w : Bytes) (first levels : ℕ) (o₀ : Output) (place : ℕ) (o : Output) : Type 0 where
   pub left : (l k : ℕ) (y : Bytes) (fs : List (Field l)) → l ≤ levels → SpellRow l s k y fs → Stands w first y → Left l s w (Onward (field_bytes (type_bytes l)) fs o₀ o) place
-
-pub emitting_begin : (s w : Bytes) (first levels : ℕ) (o : Output) → Emitting s w first levels o first o
-emitting_begin s w first levels o = record {
-  left = λ l k y fs h r st. left_begin l s fs (Onward (field_bytes (type_bytes l)) fs o o) r st (onward_begin (field_bytes (type_bytes l)));
-}
 
 module _ {s w : Bytes} {first : ℕ} (levels : ℕ) {o₀ : Output} {place : ℕ} {o : Output} (c : Emitting s w first levels o₀ place o) where
   pub emitting_out : length w ≤ place → PutsEntries s w first levels o₀ o

@@ -1,5 +1,5 @@
 -- A type's entry, by its kind.
-use Prim.Native.Nat.{ℕ, zero, suc, ◌+◌, ◌-◌, ◌≤◌}
+use Prim.Native.Nat.{ℕ, zero, suc, ◌+◌, ◌-◌}
 use native.Mathlib.Omega.{arith}
 use mathlib.Core.Path.{◌≡◌, refl, sym, ap, subst, ◌∙◌}
 use mathlib.Core.List.{[], ◌∷◌, ◌++◌, append-nil}
@@ -53,10 +53,6 @@ code_and : (s : Bytes) (x z c : ℕ) (b : Bytes) {bytes : Bytes} {o o₁ o₂ : 
 code_and s x z c b o g n one f = puts_same (sym n) (puts_join (c ∷ []) b (puts_same (ap (λ n. n ∷ []) (ap (λ i. get_or s i 0) o ∙ g)) one) f)
 
 module _ {s w : Bytes} {place own : ℕ} (levels : ℕ) where
-  pub no_level : {o o' : Output} → levels ≤ 0 → PutsType s w place own levels o o'
-  no_level h zero k y first t i p st u v = absurd p
-  no_level h (suc l) k y first t i p st u v = absurd (omega (arith, h, i))
-
   module _ {kind m x : ℕ} (e : kind ≡ get_or w place 0) (a : Ahead w place 1 m) (j : x ≡ three w m) where
     module _ {o : Output} where
       pub type_raw : {o' : Output} → kind ≡ raw → PutsSurvivor s own x levels o o' → PutsType s w place own levels o o'

@@ -1,13 +1,9 @@
 -- Entries, types and rows. The levels left fall from a type to what it holds, and each function calls on one that stands before it at equal levels.
-use native.Mathlib.Omega.{arith}
-use Rattle.emit.proofs.Types.{no_level, type_raw, type_struct, type_list, type_union}
+use Rattle.emit.proofs.Types.{type_raw, type_struct, type_list, type_union}
 use mathlib.Core.Path.{refl}
 use Rattle.table.proofs.OfKinds.{is_raw, is_struct, is_list, is_union}
-use Rattle.emit.proofs.Rows.{entry_puts, emitting_begin, emitting_out, emitting_beyond, emitting_done, emitting_stuck, emitting_again, row_puts}
+use Rattle.emit.proofs.Rows.{entry_puts, emitting_out, emitting_beyond, emitting_done, emitting_stuck, emitting_again, row_puts}
 use Rattle.emit.proofs.Spelling.+putting.Goals as goal
-
-pub put_entries-loop-place-init : goal.put_entries-loop-place-init
-put_entries-loop-place-init t c = emitting_begin _ _ _ _ _
 
 pub put_entries-returns-then-byte-eq-NO_ENTRY : goal.put_entries-returns-then-byte-eq-NO_ENTRY
 put_entries-returns-then-byte-eq-NO_ENTRY t c = emitting_done _ c.loop-place.invariant c.byte.ensures.0 c.if-byte-eq-NO_ENTRY.true
@@ -17,9 +13,6 @@ put_entries-returns-then-out-gt-MAX_ANSWER_BYTES t c = emitting_beyond _ c.loop-
 
 pub put_entries-returns-then-behind-place : goal.put_entries-returns-then-behind-place
 put_entries-returns-then-behind-place t c = emitting_stuck _ c.loop-place.invariant c.byte.ensures.0 c.if-byte-eq-NO_ENTRY.false c.skip_entry-behind.ensures c.if-behind-place.true
-
-pub put_entries-loop-place-smaller : goal.put_entries-loop-place-smaller
-put_entries-loop-place-smaller t c = omega (arith, c.loop-place-test.true, c.if-behind-place.false)
 
 pub put_entries-loop-place-preserved : goal.put_entries-loop-place-preserved
 put_entries-loop-place-preserved t c = emitting_again _ c.loop-place.invariant c.byte.ensures.0 c.if-byte-eq-NO_ENTRY.false c.skip_entry-behind.ensures c.put_entry.ensures
@@ -32,9 +25,6 @@ put_entry-returns t c = entry_puts _ c.put_head.ensures c.ahead.ensures c.three-
 
 pub put_row-returns : goal.put_row-returns
 put_row-returns t c = row_puts _ c.count_entries.ensures c.put_two.ensures c.put_entries.ensures
-
-pub put_type-returns-then-levels-eq0 : goal.put_type-returns-then-levels-eq0
-put_type-returns-then-levels-eq0 t c = no_level _ (omega (arith, c.if-levels-eq0.true))
 
 pub put_type-returns-in-Raw : goal.put_type-returns-in-Raw
 put_type-returns-in-Raw t c = type_raw _ refl c.ahead.ensures c.three-x.ensures.0 (is_raw c.kind_at.ensures c.in-Raw.is) c.put_raw.ensures
