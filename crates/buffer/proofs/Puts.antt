@@ -84,6 +84,11 @@ pub fills : (b : Bytes) {w : Bytes} {o o' : Output} → o.buffer.now ≡ w → o
 fills b {w} {o} e z h =
     record { inside = λ k. omega (arith, h.inside (omega (arith, k, z)), z); beyond = λ k. h.beyond (omega (arith, k, z)); size = h.size ∙ ap length e; written = λ k l. h.written (omega (arith, k, z)) (rw e (omega (arith, l, z))) ∙ (λ i. pasted (e i) (z i) b) }
 
+-- the same of the bytes w' that an output of this ghost name leaves
+pub filled : (b : Bytes) {w w' : Bytes} {name : ℕ} {o o' : Output} → (o.buffer.ghost_name ≡ name) × (o.buffer.now ≡ w) × (o.written ≡ 0) → Puts b o o'
+    → (name ≡ o'.buffer.ghost_name → w' ≡ o'.buffer.now) → Fills b w w' o'.written
+filled b (i, e, z) h left = rw (left (sym (h.same_buffer ∙ i))) (fills b e z h)
+
 -- The end of a call: the bytes were put into some buffer from its start on, for their length n, and f is the test of such a length
 
 module _ (b : Bytes) {w w' : Bytes} {n : ℕ} (counted : Fills b w w' n) where

@@ -13,6 +13,7 @@ use Rattle.model.specs.Numbers.{max_sheet_bytes}
 use Rattle.model.specs.Bytes.{Bytes, Every, u16}
 use Rattle.model.specs.Sheet.{each, with_count, stands, text_bytes, pair_bytes}
 use Rattle.model.proofs.Lists.{every_unit}
+use Rattle.buffer.specs.declared.Output.{Output}
 use Rattle.buffer.specs.Puts.{Puts}
 use Rattle.buffer.proofs.Puts.{puts_same}
 use Rattle.walk.specs.Stands.{Stands, Skips}
@@ -53,25 +54,25 @@ module _ {A : Type 0} {s : Bytes} {write : A → Bytes} {w : Bytes} {place : ℕ
 
 -- The loop that copies parts of the train
 
-module _ (ends : ℕ → ℕ → Type 0) (s w : Bytes) (first : ℕ) (d₀ : Bytes) (p : ℕ) where
+module _ (ends : ℕ → ℕ → Type 0) (s w : Bytes) (first : ℕ) (o₀ : Output) where
   -- of the parts bs these are left, and the row gives their places
-  record Left (bs : List Bytes) (row : PlaceRow) (d : Bytes) (q : ℕ) : Type 0 where
+  record Left (bs : List Bytes) (row : PlaceRow) (o : Output) : Type 0 where
     places : List ℕ
     left : List Bytes
     refer : Refer s (λ b. b) places left
     good : Every (EndsAt ends s) left
     gives : AlwaysYields GivesPlace (λ x. x) row places
-    goal : Onward (λ b. b) bs d₀ p d q left
+    goal : Onward (λ b. b) bs o₀ o left
 
   -- so it is of each row that stands at `first`
-  pub record Copying (row : PlaceRow) (d : Bytes) (q : ℕ) : Type 0 where
-    going : {k : ℕ} {y : Bytes} {bs : List Bytes} → Places s (λ b. b) k y bs → Every (EndsAt ends s) bs → Stands w first y → Left bs row d q
+  pub record Copying (row : PlaceRow) (o : Output) : Type 0 where
+    going : {k : ℕ} {y : Bytes} {bs : List Bytes} → Places s (λ b. b) k y bs → Every (EndsAt ends s) bs → Stands w first y → Left bs row o
 
   -- all are put
-  abbrev pub PutsParts : (d : Bytes) (q : ℕ) → Type 0
-  PutsParts d q = (k : ℕ) (y : Bytes) (bs : List Bytes) → Places s (λ b. b) k y bs → Every (EndsAt ends s) bs → Stands w first y → Puts (each (λ b. b) bs) d₀ p d q
+  abbrev pub PutsParts : (o : Output) → Type 0
+  PutsParts o = (k : ℕ) (y : Bytes) (bs : List Bytes) → Places s (λ b. b) k y bs → Every (EndsAt ends s) bs → Stands w first y → Puts (each (λ b. b) bs) o₀ o
 
-  pub copying_begin : {row : PlaceRow} → Begins w first row → Copying row d₀ p
+  pub copying_begin : {row : PlaceRow} → Begins w first row → Copying row o₀
   copying_begin i = record {
     going = λ {k} {y} {bs} r g st. record {
       places = r.places;
@@ -83,29 +84,29 @@ module _ (ends : ℕ → ℕ → Type 0) (s w : Bytes) (first : ℕ) (d₀ : Byt
     };
   }
 
-  module _ {row : PlaceRow} {d : Bytes} {q : ℕ} (c : Copying row d q) where
-    pub copying_beyond : max_sheet_bytes < q → PutsParts d q
+  module _ {row : PlaceRow} {o : Output} (c : Copying row o) where
+    pub copying_beyond : max_sheet_bytes < o.written → PutsParts o
     copying_beyond h k y bs r g st = onward_beyond (λ b. b) h (c.going r g st).goal
 
     module _ (behind : PlaceRow) where
-      pub copying_done : GivesPlace row None behind → PutsParts d q
+      pub copying_done : GivesPlace row None behind → PutsParts o
       copying_done h k y bs r g st = go (c.going r g st)
         where
-          done : (ps : List ℕ) (left : List Bytes) → Refer s (λ b. b) ps left → AlwaysYields GivesPlace (λ x. x) row ps → Onward (λ b. b) bs d₀ p d q left
-              → Puts (each (λ b. b) bs) d₀ p d q
+          done : (ps : List ℕ) (left : List Bytes) → Refer s (λ b. b) ps left → AlwaysYields GivesPlace (λ x. x) row ps → Onward (λ b. b) bs o₀ o left
+              → Puts (each (λ b. b) bs) o₀ o
           done [] [] none_left u o = onward_done (λ b. b) o
           done (x ∷ ps) (b ∷ left) (one_place i v r') u o = absurd (u.0 behind h)
           done [] (b ∷ left) r' u o = elim r' [ ]
           done (x ∷ ps) [] r' u o = elim r' [ ]
 
-          go : Left bs row d q → Puts (each (λ b. b) bs) d₀ p d q
+          go : Left bs row o → Puts (each (λ b. b) bs) o₀ o
           go l = done l.places l.left l.refer l.gives l.goal
 
-      pub copying_again : {place end : ℕ} {d₁ : Bytes} {q₁ : ℕ} → GivesPlace row (Some place) behind → ends place end → PutsPart s place end d q d₁ q₁ → Copying behind d₁ q₁
-      copying_again {place} {end} {d₁} {q₁} h e f = record { going = λ {k} {y} {bs} r g st. go bs (c.going r g st) }
+      pub copying_again : {place end : ℕ} {o₁ : Output} → GivesPlace row (Some place) behind → ends place end → PutsPart s place end o o₁ → Copying behind o₁
+      copying_again {place} {end} {o₁} h e f = record { going = λ {k} {y} {bs} r g st. go bs (c.going r g st) }
         where
           again : (bs : List Bytes) (ps : List ℕ) (left : List Bytes) → Refer s (λ b. b) ps left → Every (EndsAt ends s) left → AlwaysYields GivesPlace (λ x. x) row ps
-              → Onward (λ b. b) bs d₀ p d q left → Left bs behind d₁ q₁
+              → Onward (λ b. b) bs o₀ o left → Left bs behind o₁
           again bs [] [] none_left g u o = absurd (u place behind h)
           again bs (x ∷ ps) (b ∷ left) (one_place i v r) g u o =
               let next = u.1 place behind h in
@@ -122,7 +123,7 @@ module _ (ends : ℕ → ℕ → Type 0) (s w : Bytes) (first : ℕ) (d₀ : Byt
           again bs [] (b ∷ left) r g u o = elim r [ ]
           again bs (x ∷ ps) [] r g u o = elim r [ ]
 
-          go : (bs : List Bytes) → Left bs row d q → Left bs behind d₁ q₁
+          go : (bs : List Bytes) → Left bs row o → Left bs behind o₁
           go bs l = again bs l.places l.left l.refer l.good l.gives l.goal
 
 parts_long : (ends : ℕ → ℕ → Type 0) (s : Bytes) (bs : List Bytes) → Every (EndsAt ends s) bs → length bs ≤ length (each (λ b. b) bs)
@@ -130,9 +131,9 @@ parts_long ends s [] g = omega arith
 parts_long ends s (b ∷ bs) g = omega (arith, parts_long ends s bs g.1, g.0.0, length-append b (each (λ b. b) bs))
 
 -- the count, and the parts
-pub places_put : (ends : ℕ → ℕ → Type 0) (s w : Bytes) (place : ℕ) {row : PlaceRow} {n : ℕ} {d d₁ d₂ : Bytes} {p q r : ℕ} → Begins w place row
-    → ((xs : List ℕ) × Drains GivesPlace row xs × (n ≡ length xs)) → Puts (n % 256 ∷ n / 256 % 256 ∷ []) d p d₁ q → PutsParts ends s w place d₁ q d₂ r
-    → PutsPlaces ends s w place d p d₂ r
+pub places_put : (ends : ℕ → ℕ → Type 0) (s w : Bytes) (place : ℕ) {row : PlaceRow} {n : ℕ} {o o₁ o₂ : Output} → Begins w place row
+    → ((xs : List ℕ) × Drains GivesPlace row xs × (n ≡ length xs)) → Puts (n % 256 ∷ n / 256 % 256 ∷ []) o o₁ → PutsParts ends s w place o₁ o₂
+    → PutsPlaces ends s w place o o₂
 places_put ends s w place {row} {n} i count two parts k y bs ps g st =
     puts_counted_list (λ b. b) bs
     (count_from_yields_List _ n count (row_gives ps.places i (refer_small ps.refer) (row_stands ps st)) ∙ sym (refer_length ps.refer))
@@ -157,9 +158,9 @@ module _ {A : Type 0} (write : A → Bytes) where
   parts_good W ends f [] g = tt
   parts_good W ends f (x ∷ xs) g = (f x g.0, parts_good W ends f xs g.1)
 
-  pub elements_put : (W : A → Type 0) (ends : ℕ → ℕ → Type 0) {s w : Bytes} {place : ℕ} {d : Bytes} {p : ℕ} {d' : Bytes} {r : ℕ} → ((x : A) → W x → EndsAt ends s (write x))
-      → PutsPlaces ends s w place d p d' r
-      → (k : ℕ) (y : Bytes) (xs : List A) → Places s write k y xs → Every W xs → Stands w place y → Puts (with_count write xs) d p d' r
+  pub elements_put : (W : A → Type 0) (ends : ℕ → ℕ → Type 0) {s w : Bytes} {place : ℕ} {o o' : Output} → ((x : A) → W x → EndsAt ends s (write x))
+      → PutsPlaces ends s w place o o'
+      → (k : ℕ) (y : Bytes) (xs : List A) → Places s write k y xs → Every W xs → Stands w place y → Puts (with_count write xs) o o'
   elements_put W ends f puts k y xs ps g st =
       puts_same (parts_counted xs)
       (puts k y (map write xs) (record { places = ps.places; bytes = ps.bytes; refer = parts_refer ps.refer; room = ps.room }) (parts_good W ends f xs g) st)
@@ -175,12 +176,12 @@ pub pair_skips : {s : Bytes} {place value end : ℕ} → ((t : Bytes) → Skips 
 unfolding pair_bytes
 pair_skips f g x = skip_join (f x.0) (g x.1)
 
-module _ {s w : Bytes} {place : ℕ} {d : Bytes} {p : ℕ} {b : Bool} (f : HasPlaces w place b) where
-  pub metadata_puts : (ends : ℕ → ℕ → Type 0) {d' : Bytes} {r : ℕ} → b ≡ true → ((place end : ℕ) → place < no_place → ends place end → (x : Bytes × Bytes) → Skips s place (pair_bytes x) end)
-      → PutsPlaces ends s w place d p d' r → PutsMetadata s w place d p d' r
+module _ {s w : Bytes} {place : ℕ} {o : Output} {b : Bool} (f : HasPlaces w place b) where
+  pub metadata_puts : (ends : ℕ → ℕ → Type 0) {o' : Output} → b ≡ true → ((place end : ℕ) → place < no_place → ends place end → (x : Bytes × Bytes) → Skips s place (pair_bytes x) end)
+      → PutsPlaces ends s w place o o' → PutsMetadata s w place o o'
   metadata_puts ends e skips puts k y m h st =
       puts_part (with_count pair_bytes) m (sym e ∙ places_stand h st f)
       (elements_put pair_bytes (λ x. Unit {0}) ends (λ x g. (pair_long x, λ place end small i. skips place end small i x)) puts k y m h (every_unit m) st)
 
-  pub no_metadata : b ≡ false → PutsMetadata s w place d p d p
+  pub no_metadata : b ≡ false → PutsMetadata s w place o o
   no_metadata e k y m h st = puts_no_part (with_count pair_bytes) m (sym e ∙ places_stand h st f)

@@ -10,6 +10,7 @@ use borrow.Author.Tests.{eq-eqb, eqb-true}
 use Rattle.model.specs.Bytes.{Bytes, bit, flag}
 use Rattle.model.specs.Tree.{Head, Field}
 use Rattle.model.specs.Sheet.{head_map, front_bytes, dict_id_bytes, dict_id_stands, stands, part, with_count, text_bytes, pair_bytes, head_bytes}
+use Rattle.buffer.specs.declared.Output.{Output}
 use Rattle.buffer.specs.Puts.{Puts}
 use Rattle.buffer.proofs.Puts.{puts_same, puts_join}
 use Rattle.walk.specs.Stands.{Stands, Skips}
@@ -56,8 +57,8 @@ module _ {s : Bytes} {first map name : ℕ} (e : map ≡ get_or s first 0) (a : 
   unfolding front_bytes head_bytes
   name_at h st = (skip_ahead (_ ∷ []) refl a.1).behind (first_stands (_ ∷ []) _ st)
 
-  module _ (flags : ℕ) {d d₁ d₂ : Bytes} {p q r end : ℕ} (f : PutsPart s name end d₁ q d₂ r) where
-    pub raw_head_puts : Puts ((flags % 4 + map / 4 % 8 * 4) ∷ []) d p d₁ q → ((h : Head) → Skips s first (head_bytes h) end) → PutsRawHead s first flags d p d₂ r
+  module _ (flags : ℕ) {o o₁ o₂ : Output} {end : ℕ} (f : PutsPart s name end o₁ o₂) where
+    pub raw_head_puts : Puts ((flags % 4 + map / 4 % 8 * 4) ∷ []) o o₁ → ((h : Head) → Skips s first (head_bytes h) end) → PutsRawHead s first flags o o₂
     unfolding front_bytes head_bytes
     raw_head_puts one g h st =
         let rest = (part text_bytes h.name ++ part (with_count pair_bytes) h.metadata) ++ dict_id_bytes h.dict_id in
@@ -65,8 +66,8 @@ module _ {s : Bytes} {first map name : ℕ} (e : map ≡ get_or s first 0) (a : 
         omega (arith, low_bits flags, ap (λ m. m / 4 % 8 * 4) (map_stands e h st) ∙ upper_bits h) in
         puts_join (_ ∷ []) rest (puts_same (ap (λ n. n ∷ []) i) one) (f rest (name_stands h st) (omega (arith, (g h).behind st, name_at h st)))
 
-    pub name_puts : {m : ℕ} (metadata : Bool) → m ≡ flag 8 metadata → Puts ((flags % 4 + map / 4 % 2 * 4 + m + map / 16 % 2 * 16) ∷ []) d p d₁ q
-        → ((t : Bytes) → stands t ≡ bit 2 map → Skips s name (part text_bytes t) end) → PutsName s first flags metadata d p d₂ r
+    pub name_puts : {m : ℕ} (metadata : Bool) → m ≡ flag 8 metadata → Puts ((flags % 4 + map / 4 % 2 * 4 + m + map / 16 % 2 * 16) ∷ []) o o₁
+        → ((t : Bytes) → stands t ≡ bit 2 map → Skips s name (part text_bytes t) end) → PutsName s first flags metadata o o₂
     unfolding bit
     name_puts {m} metadata k one g h st =
         let w = map_stands e h st in
@@ -77,8 +78,8 @@ module _ {s : Bytes} {first map name : ℕ} (e : map ≡ get_or s first 0) (a : 
         puts_join (_ ∷ []) (part text_bytes h.name) (puts_same (ap (λ n. n ∷ []) i) one) (f (part text_bytes h.name) there ((g h.name (sym named)).behind there))
 
 -- the dictionary number stands between the front of the head and its end
-pub dict_id_puts : {s : Bytes} {first front end : ℕ} {d d₁ : Bytes} {p r : ℕ} → ((h : Head) → Skips s first (front_bytes h) front) → ((h : Head) → Skips s first (head_bytes h) end)
-    → PutsPart s front end d p d₁ r → PutsDictId s first d p d₁ r
+pub dict_id_puts : {s : Bytes} {first front end : ℕ} {o o₁ : Output} → ((h : Head) → Skips s first (front_bytes h) front) → ((h : Head) → Skips s first (head_bytes h) end)
+    → PutsPart s front end o o₁ → PutsDictId s first o o₁
 unfolding head_bytes
 dict_id_puts f g put h st =
     let u = stands_behind (f h) st in
@@ -107,24 +108,24 @@ module _ {s w : Bytes} {place flags m first : ℕ} (e : flags ≡ get_or w place
     ordered_is : eqb (flags / 2 % 2) 1 ≡ f.head.dict_is_ordered
     ordered_is = ap (λ n. eqb (n / 2 % 2) 1) flags_are ∙ p.dict_is_ordered
 
-  module _ {d : Bytes} {pos : ℕ} {d' : Bytes} {r : ℕ} where
-    pub head_raw : (flags / 4 ≡ 1 → ⊥) → PutsRawHead s first flags d pos d' r → PutsHead s w place d pos d' r
+  module _ {o o' : Output} where
+    pub head_raw : (flags / 4 ≡ 1 → ⊥) → PutsRawHead s first flags o o' → PutsHead s w place o o'
     head_raw never g l k y f p st = go p.metadata
       where
-        go : SpellMetadata s p.metadata_room (eqb (p.flags / 4) 1) p.metadata_bytes p.own.head.metadata f.head.metadata → Puts (head_bytes f.head) d pos d' r
+        go : SpellMetadata s p.metadata_room (eqb (p.flags / 4) 1) p.metadata_bytes p.own.head.metadata f.head.metadata → Puts (head_bytes f.head) o o'
         go (raw_pairs o b j n) =
             puts_same (same_head_lem (flagged_by p.own.head flags) f.head (nullable_is l p st) (ordered_is l p st) p.name j p.dict_id) (g p.own.head (own_stands l p st))
         go (pair_places o n) = absurd (never (ap (λ n. n / 4) (flags_are l p st) ∙ eqb-true (p.flags / 4) 1 o))
 
-  pub head_open : {pairs : ℕ} {b : Bool} {d d₁ d₂ d₃ : Bytes} {pos q r t : ℕ} → flags / 4 ≡ 1 → Ahead w place 4 pairs → HasPlaces w pairs b → PutsName s first flags b d pos d₁ q
-      → PutsMetadata s w pairs d₁ q d₂ r → PutsDictId s first d₂ r d₃ t → PutsHead s w place d pos d₃ t
+  pub head_open : {pairs : ℕ} {b : Bool} {o o₁ o₂ o₃ : Output} → flags / 4 ≡ 1 → Ahead w place 4 pairs → HasPlaces w pairs b → PutsName s first flags b o o₁
+      → PutsMetadata s w pairs o₁ o₂ → PutsDictId s first o₂ o₃ → PutsHead s w place o o₃
   unfolding front_bytes head_bytes
-  head_open {pairs} {b} {d} {d₁} {d₂} {d₃} {pos} {q} {r} {t} set c has g h n' l k y f p st = go p.metadata
+  head_open {pairs} {b} {o} {o₁} {o₂} {o₃} set c has g h n' l k y f p st = go p.metadata
     where
       there : Stands w pairs p.metadata_bytes
       there = first_stands p.metadata_bytes p.type_spelt (behind_stands p.flags p.first (p.metadata_bytes ++ p.type_spelt) c p.bytes st)
 
-      go : SpellMetadata s p.metadata_room (eqb (p.flags / 4) 1) p.metadata_bytes p.own.head.metadata f.head.metadata → Puts (head_bytes f.head) d pos d₃ t
+      go : SpellMetadata s p.metadata_room (eqb (p.flags / 4) 1) p.metadata_bytes p.own.head.metadata f.head.metadata → Puts (head_bytes f.head) o o₃
       go (raw_pairs o x j n) = absurd (false≢true (sym o ∙ ap (λ n. eqb (n / 4) 1) (sym (flags_are l p st)) ∙ eq-eqb (flags / 4) 1 set))
       go (pair_places o n) =
           puts_same

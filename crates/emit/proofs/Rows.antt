@@ -1,7 +1,7 @@
 -- Entries and rows of entries: their fields, and how many they are.
 use Prim.Native.Nat.{ℕ, ◌+◌, ◌%◌, ◌/◌, ◌≤◌, ◌<◌}
 use native.Mathlib.Omega.{arith}
-use mathlib.Core.Path.{◌≡◌, refl, sym, ap, subst, ◌∙◌}
+use mathlib.Core.Path.{◌≡◌, sym, ap, subst, ◌∙◌}
 use mathlib.Core.List.{List, [], ◌∷◌, ◌++◌, append_assoc}
 use mathlib.Core.Bool.{not}
 use lib.ListN.{length, get_or, length-append}
@@ -12,6 +12,7 @@ use Rattle.model.specs.Bytes.{Bytes}
 use Rattle.model.specs.Tree.{Head, Field}
 use Rattle.model.specs.Sheet.{front_bytes, each, stands, head_bytes, field_bytes, type_bytes}
 use Rattle.model.proofs.WellFormed.{type_laid_out}
+use Rattle.buffer.specs.declared.Output.{Output}
 use Rattle.buffer.specs.Puts.{Puts}
 use Rattle.buffer.proofs.Puts.{puts_join}
 use Rattle.walk.specs.Stands.{Stands, Skips}
@@ -23,12 +24,12 @@ use Rattle.table.proofs.Entries.{SkipsEntries}
 use Rattle.emit.specs.Emission.{PutsHead, PutsType, PutsEntry, PutsEntries, PutsRow, HasEntries, CountsEntries}
 use Rattle.emit.proofs.Going.{Going, going_out, going_done, going_again, going_stuck}
 use Rattle.emit.proofs.Fronts.{place_is}
-use Rattle.emit.proofs.Putting.{Onward, onward_begin, onward_one, onward_done, onward_beyond, puts_counted_list}
+use Rattle.emit.proofs.Putting.{Onward, onward_one, onward_done, onward_beyond, puts_counted_list}
 
 -- an entry: the head, then the type behind it
-pub entry_puts : {s w : Bytes} (levels : ℕ) {place m first inner own : ℕ} {d d₁ d₂ : Bytes} {p q r : ℕ} → PutsHead s w place d p d₁ q → Ahead w place 1 m → first ≡ three w m
+pub entry_puts : {s w : Bytes} (levels : ℕ) {place m first inner own : ℕ} {o o₁ o₂ : Output} → PutsHead s w place o o₁ → Ahead w place 1 m → first ≡ three w m
     → ((l : ℕ) (s : Bytes) (k : ℕ) (y : Bytes) (f : Field l) (e : SpellField l s k y f) → Skips w place (e.flags ∷ (u24 e.first ++ e.metadata_bytes)) inner)
-    → ((h : Head) → Skips s first (head_bytes h) own) → PutsType s w inner own levels d₁ q d₂ r → PutsEntry s w place levels d p d₂ r
+    → ((h : Head) → Skips s first (head_bytes h) own) → PutsType s w inner own levels o₁ o₂ → PutsEntry s w place levels o o₂
 unfolding field_bytes
 entry_puts {s} {w} levels {place} head a i skip own type l k y f h e st =
     let is = place_is e.flags e.first (e.metadata_bytes ++ e.type_spelt) a i e.small e.bytes st in
@@ -58,9 +59,6 @@ module _ (l : ℕ) (s : Bytes) where
   Left w G place = Going Entry (no_entry ∷ []) w G place
 
   module _ {w : Bytes} {place : ℕ} where
-    left_begin : {k : ℕ} {y : Bytes} (fs : List (Field l)) (G : List (Field l) → Type 0) → SpellRow l s k y fs → Stands w place y → G fs → Left w G place
-    left_begin fs G p st g = record { left = fs; bytes = p.row_bytes; room = p.row_room; rows = p.row; stands = subst (Stands w place) p.bytes st; goal = g }
-
     -- an entry does not begin as the end of a row does
     not_end : {i : ℕ} {b : Bytes} {x : Field l} (c : Bytes) → Entry i b x → Stands w place (b ++ c) → get_or w place 0 < 8
     not_end {x = x} c e st = let j = byte_stands (subst (λ b. Stands w place (b ++ c)) e.bytes st) in omega (arith, j, e.small_flags)
@@ -95,9 +93,6 @@ pub record Counting (w : Bytes) (first levels place count : ℕ) : Type 0 where
   pub left : (l : ℕ) (s : Bytes) (k : ℕ) (y : Bytes) (fs : List (Field l)) → l ≤ levels → SpellRow l s k y fs → Stands w first y → Left l s w (λ left. count + length left ≡ length fs) place
   pub low : count ≤ place
 
-pub counting_begin : (w : Bytes) (first levels : ℕ) → Counting w first levels first 0
-counting_begin w first levels = record { left = λ l s k y fs h p st. left_begin l s fs (λ left. 0 + length left ≡ length fs) p st (omega arith); low = omega arith }
-
 module _ {w : Bytes} {first levels place count : ℕ} (c : Counting w first levels place count) where
   pub counting_out : length w ≤ place → CountsEntries w first levels count
   counting_out h l s k y fs i p st = absurd (left_out l s (λ left. count + length left ≡ length fs) (c.left l s k y fs i p st) h)
@@ -119,41 +114,33 @@ module _ {w : Bytes} {first levels place count : ℕ} (c : Counting w first leve
 -- Their fields
 
 -- what is left of each row that stands from `first` on
-pub record Emitting (s w : Bytes) (first levels : ℕ) (d₀ : Bytes) (p place : ℕ) (d : Bytes) (q : ℕ) : Type 0 where
-  pub left : (l k : ℕ) (y : Bytes) (fs : List (Field l)) → l ≤ levels → SpellRow l s k y fs → Stands w first y → Left l s w (Onward (field_bytes (type_bytes l)) fs d₀ p d q) place
-  pub size : length d ≡ length d₀
+pub record Emitting (s w : Bytes) (first levels : ℕ) (o₀ : Output) (place : ℕ) (o : Output) : Type 0 where
+  pub left : (l k : ℕ) (y : Bytes) (fs : List (Field l)) → l ≤ levels → SpellRow l s k y fs → Stands w first y → Left l s w (Onward (field_bytes (type_bytes l)) fs o₀ o) place
 
-pub emitting_begin : (s w : Bytes) (first levels : ℕ) (d : Bytes) (p : ℕ) → Emitting s w first levels d p first d p
-emitting_begin s w first levels d p = record {
-  left = λ l k y fs h r st. left_begin l s fs (Onward (field_bytes (type_bytes l)) fs d p d p) r st (onward_begin (field_bytes (type_bytes l)));
-  size = refl;
-}
+module _ {s w : Bytes} {first : ℕ} (levels : ℕ) {o₀ : Output} {place : ℕ} {o : Output} (c : Emitting s w first levels o₀ place o) where
+  pub emitting_out : length w ≤ place → PutsEntries s w first levels o₀ o
+  emitting_out h l k y fs i r st = absurd (left_out l s (Onward (field_bytes (type_bytes l)) fs o₀ o) (c.left l k y fs i r st) h)
 
-module _ {s w : Bytes} {first : ℕ} (levels : ℕ) {d₀ : Bytes} {p place : ℕ} {d : Bytes} {q : ℕ} (c : Emitting s w first levels d₀ p place d q) where
-  pub emitting_out : length w ≤ place → PutsEntries s w first levels d₀ p d q
-  emitting_out h l k y fs i r st = absurd (left_out l s (Onward (field_bytes (type_bytes l)) fs d₀ p d q) (c.left l k y fs i r st) h)
-
-  pub emitting_beyond : max_sheet_bytes < q → PutsEntries s w first levels d₀ p d q
+  pub emitting_beyond : max_sheet_bytes < o.written → PutsEntries s w first levels o₀ o
   emitting_beyond h l k y fs i r st = onward_beyond (field_bytes (type_bytes l)) h (c.left l k y fs i r st).goal
 
   module _ {n : ℕ} (e : n ≡ get_or w place 0) where
-    pub emitting_done : n ≡ no_entry → PutsEntries s w first levels d₀ p d q
-    emitting_done h l k y fs i r st = onward_done (field_bytes (type_bytes l)) (left_done l s (Onward (field_bytes (type_bytes l)) fs d₀ p d q) (c.left l k y fs i r st) e h)
+    pub emitting_done : n ≡ no_entry → PutsEntries s w first levels o₀ o
+    emitting_done h l k y fs i r st = onward_done (field_bytes (type_bytes l)) (left_done l s (Onward (field_bytes (type_bytes l)) fs o₀ o) (c.left l k y fs i r st) e h)
 
-    module _ (never : n ≡ no_entry → ⊥) {behind : ℕ} (skip : SkipsEntries w place levels behind) {d₁ : Bytes} {q₁ : ℕ} where
-      pub emitting_stuck : behind ≤ place → PutsEntries s w first levels d₀ p d₁ q₁
-      emitting_stuck h l k y fs i r st = absurd (left_stuck l s (Onward (field_bytes (type_bytes l)) fs d₀ p d q) (c.left l k y fs i r st) e never i skip h)
+    module _ (never : n ≡ no_entry → ⊥) {behind : ℕ} (skip : SkipsEntries w place levels behind) {o₁ : Output} where
+      pub emitting_stuck : behind ≤ place → PutsEntries s w first levels o₀ o₁
+      emitting_stuck h l k y fs i r st = absurd (left_stuck l s (Onward (field_bytes (type_bytes l)) fs o₀ o) (c.left l k y fs i r st) e never i skip h)
 
-      pub emitting_again : PutsEntry s w place levels d q d₁ q₁ → length d₁ ≡ length d → Emitting s w first levels d₀ p behind d₁ q₁
-      emitting_again f h = record {
+      pub emitting_again : PutsEntry s w place levels o o₁ → Emitting s w first levels o₀ behind o₁
+      emitting_again f = record {
         left = λ l k y fs i r st.
-            left_again l s (Onward (field_bytes (type_bytes l)) fs d₀ p d q) (c.left l k y fs i r st) e never i skip (Onward (field_bytes (type_bytes l)) fs d₀ p d₁ q₁)
+            left_again l s (Onward (field_bytes (type_bytes l)) fs o₀ o) (c.left l k y fs i r st) e never i skip (Onward (field_bytes (type_bytes l)) fs o₀ o₁)
             λ j b x xs v u o. onward_one (field_bytes (type_bytes l)) (f l j b x i v u) o;
-        size = h ∙ c.size;
       }
 
 -- the count, then the fields
-pub row_puts : {s w : Bytes} {place : ℕ} (levels : ℕ) {n : ℕ} {d d₁ d₂ : Bytes} {p q r : ℕ} → CountsEntries w place levels n → Puts (n % 256 ∷ n / 256 % 256 ∷ []) d p d₁ q
-    → PutsEntries s w place levels d₁ q d₂ r → PutsRow s w place levels d p d₂ r
+pub row_puts : {s w : Bytes} {place : ℕ} (levels : ℕ) {n : ℕ} {o o₁ o₂ : Output} → CountsEntries w place levels n → Puts (n % 256 ∷ n / 256 % 256 ∷ []) o o₁
+    → PutsEntries s w place levels o₁ o₂ → PutsRow s w place levels o o₂
 row_puts {s} levels c two f l k y fs i h st =
     puts_counted_list (field_bytes (type_bytes l)) fs (c l s k y fs i h st) (fields_long l fs) two (f l k y fs i h st)

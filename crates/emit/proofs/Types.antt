@@ -1,5 +1,5 @@
 -- A type's entry, by its kind.
-use Prim.Native.Nat.{ℕ, zero, suc, ◌+◌, ◌-◌, ◌≤◌}
+use Prim.Native.Nat.{ℕ, zero, suc, ◌+◌, ◌-◌}
 use native.Mathlib.Omega.{arith}
 use mathlib.Core.Path.{◌≡◌, refl, sym, ap, subst, ◌∙◌}
 use mathlib.Core.List.{[], ◌∷◌, ◌++◌, append-nil}
@@ -14,6 +14,7 @@ use Rattle.model.specs.Sheet.{each, with_count, field_bytes, children_bytes, typ
 use Rattle.model.proofs.WellFormed.{type_laid_out}
 use Rattle.model.proofs.Layouts.{struct_children, union_children, list_children}
 use Rattle.model.proofs.Lists.{or_left, or_right}
+use Rattle.buffer.specs.declared.Output.{Output}
 use Rattle.buffer.specs.Puts.{Puts}
 use Rattle.buffer.proofs.Puts.{puts_same, puts_join}
 use Rattle.walk.specs.Stands.{Stands, member_bytes}
@@ -48,19 +49,15 @@ module _ (l : ℕ) (t : DataType (suc l)) where
   union_bytes mode h i = by_children counted_with_ids (mode ∷ []) (union_children t.code h) i
 
 -- the code, then the rest
-code_and : (s : Bytes) (x z c : ℕ) (b : Bytes) {bytes d d₁ d₂ : Bytes} {p q r : ℕ} → x ≡ z → get_or s z 0 ≡ c → bytes ≡ c ∷ b → Puts (get_or s x 0 ∷ []) d p d₁ q → Puts b d₁ q d₂ r → Puts bytes d p d₂ r
+code_and : (s : Bytes) (x z c : ℕ) (b : Bytes) {bytes : Bytes} {o o₁ o₂ : Output} → x ≡ z → get_or s z 0 ≡ c → bytes ≡ c ∷ b → Puts (get_or s x 0 ∷ []) o o₁ → Puts b o₁ o₂ → Puts bytes o o₂
 code_and s x z c b o g n one f = puts_same (sym n) (puts_join (c ∷ []) b (puts_same (ap (λ n. n ∷ []) (ap (λ i. get_or s i 0) o ∙ g)) one) f)
 
 module _ {s w : Bytes} {place own : ℕ} (levels : ℕ) where
-  pub no_level : {d : Bytes} {p : ℕ} {d' : Bytes} {r : ℕ} → levels ≤ 0 → PutsType s w place own levels d p d' r
-  no_level h zero k y first t i p st u v = absurd p
-  no_level h (suc l) k y first t i p st u v = absurd (omega (arith, h, i))
-
   module _ {kind m x : ℕ} (e : kind ≡ get_or w place 0) (a : Ahead w place 1 m) (j : x ≡ three w m) where
-    module _ {d : Bytes} {p : ℕ} where
-      pub type_raw : {d' : Bytes} {r : ℕ} → kind ≡ raw → PutsSurvivor s own x levels d p d' r → PutsType s w place own levels d p d' r
+    module _ {o : Output} where
+      pub type_raw : {o' : Output} → kind ≡ raw → PutsSurvivor s own x levels o o' → PutsType s w place own levels o o'
       type_raw h f zero k y first t i q st u v = absurd q
-      type_raw {d'} {r} h f (suc l) k y first t i (spell_raw z b n o) st u v =
+      type_raw h f (suc l) k y first t i (spell_raw z b n o) st u v =
           let c : x ≡ z = place_is raw z [] a j n.small (b ∙ ap (λ y. raw ∷ y) (sym (append-nil (u24 z)))) st in
           puts_same (ap (type_bytes (suc l)) (raw_survives l first t o))
           (f (suc l) first t i v (type_laid_out (suc l) n.ordered t n.well_formed) u (subst (λ n. Stands s n (type_bytes (suc l) t)) (sym c) n.stands))
@@ -68,8 +65,8 @@ module _ {s w : Bytes} {place own : ℕ} (levels : ℕ) where
       type_raw h f (suc l) k y first t i (spell_list z m ys k₁ b n g c o ps v₁ room) st u v = absurd (omega (arith, h, byte_is e b st))
       type_raw h f (suc l) k y first t i (spell_union z m ys b n g c o ps v₁ room) st u v = absurd (omega (arith, h, byte_is e b st))
 
-      module _ {inner : ℕ} (ahead : Ahead w place 4 inner) {d₁ : Bytes} {q : ℕ} (one : Puts (get_or s x 0 ∷ []) d p d₁ q) where
-        pub type_struct : {d₂ : Bytes} {r : ℕ} → kind ≡ open_struct → PutsRow s w inner (levels - 1) d₁ q d₂ r → PutsType s w place own levels d p d₂ r
+      module _ {inner : ℕ} (ahead : Ahead w place 4 inner) {o₁ : Output} (one : Puts (get_or s x 0 ∷ []) o o₁) where
+        pub type_struct : {o₂ : Output} → kind ≡ open_struct → PutsRow s w inner (levels - 1) o₁ o₂ → PutsType s w place own levels o o₂
         type_struct h f zero k y first t i p st u v = absurd p
         type_struct h f (suc l) k y first t i (spell_raw z b n o) st u v = absurd (omega (arith, h, byte_is e b st))
         type_struct h f (suc l) k y first t i (spell_struct z m ys b n g c o row room) st u v =
@@ -77,7 +74,7 @@ module _ {s w : Bytes} {place own : ℕ} (levels : ℕ) where
         type_struct h f (suc l) k y first t i (spell_list z m ys k₁ b n g c o ps v₁ room) st u v = absurd (omega (arith, h, byte_is e b st))
         type_struct h f (suc l) k y first t i (spell_union z m ys b n g c o ps v₁ room) st u v = absurd (omega (arith, h, byte_is e b st))
 
-        pub type_list : {d₂ : Bytes} {r : ℕ} → kind ≡ open_list → PutsEntry s w inner (levels - 1) d₁ q d₂ r → PutsType s w place own levels d p d₂ r
+        pub type_list : {o₂ : Output} → kind ≡ open_list → PutsEntry s w inner (levels - 1) o₁ o₂ → PutsType s w place own levels o o₂
         type_list h f zero k y first t i p st u v = absurd p
         type_list h f (suc l) k y first t i (spell_raw z b n o) st u v = absurd (omega (arith, h, byte_is e b st))
         type_list h f (suc l) k y first t i (spell_struct z m ys b n g c o row room) st u v = absurd (omega (arith, h, byte_is e b st))
@@ -85,8 +82,8 @@ module _ {s w : Bytes} {place own : ℕ} (levels : ℕ) where
             code_and s x z t.code _ (place_is open_list z ys a j n b st) g (list_bytes l t k₁ c o v₁) one (f l m ys k₁ (omega (arith, i)) ps (behind_stands open_list z ys ahead b st))
         type_list h f (suc l) k y first t i (spell_union z m ys b n g c o ps v₁ room) st u v = absurd (omega (arith, h, byte_is e b st))
 
-        pub type_union : {d₂ : Bytes} {r : ℕ} → (kind ≡ raw → ⊥) → (kind ≡ open_struct → ⊥) → (kind ≡ open_list → ⊥) → PutsUnion s w (x + 1) inner (levels - 1) d₁ q d₂ r
-            → PutsType s w place own levels d p d₂ r
+        pub type_union : {o₂ : Output} → (kind ≡ raw → ⊥) → (kind ≡ open_struct → ⊥) → (kind ≡ open_list → ⊥) → PutsUnion s w (x + 1) inner (levels - 1) o₁ o₂
+            → PutsType s w place own levels o o₂
         type_union h₀ h₁ h₂ f zero k y first t i p st u v = absurd p
         type_union h₀ h₁ h₂ f (suc l) k y first t i (spell_raw z b n o) st u v = absurd (h₀ (byte_is e b st))
         type_union h₀ h₁ h₂ f (suc l) k y first t i (spell_struct z m ys b n g c o row room) st u v = absurd (h₁ (byte_is e b st))

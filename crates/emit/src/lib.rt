@@ -8,21 +8,22 @@ ghost use Rattle.model.specs.Bytes.{Bytes};
 ghost use Rattle.model.specs.Tree.{Field, Schema};
 ghost use Rattle.model.specs.Sheet.{pair_bytes, sheet_bytes};
 ghost use Rattle.model.specs.WellFormed.{Whole};
-ghost use Rattle.buffer.specs.Puts.{Puts};
+ghost use Rattle.buffer.specs.Puts.{Puts, Fills};
 ghost use Rattle.walk.specs.Stands.{Stands, Skips, member_bytes};
 ghost use Rattle.table.specs.Table.{SpellSchema};
 ghost use Rattle.emit.specs.Survivor.{IsFrontType, IsSurvivor};
 ghost use Rattle.emit.specs.Emission.{HasPlaces, PutsPlaces, PutsMetadata, PutsUnion, PutsRawHead, PutsDictId, PutsName, PutsHead, PutsSurvivor, PutsType, PutsEntry, HasEntries, CountsEntries, PutsEntries, PutsRow, PutsColumns};
 
+use buffer::Output;
 use layout::NULL;
 use sheet::Cursor;
 use table::{Kind, PlaceRow};
 
 // Copies the byte at a place of the train.
-fn put_copy(s: &[u8], at: usize, dst: &mut [u8], pos: usize) -> usize
-    ensures { Puts (get_or s.now at 0 ∷ []) dst.old pos dst.new result }
+fn put_copy(s: &[u8], at: usize, out: &mut Output<'_>)
+    ensures { Puts (get_or s.now at 0 ∷ []) out.old out.new }
 {
-    buffer::put_one(dst, pos, s.get(at).copied().unwrap_or(0))
+    out.put_one(s.get(at).copied().unwrap_or(0));
 }
 
 // Whether a row of places has any.
@@ -48,50 +49,36 @@ fn skip_member(s: &[u8], at: usize, levels: usize) -> usize
 
 // The head of an entry that has no metadata of its own: that of the first occurrence, which stands at a place of the train, but for the
 // two lowest bits of its map.
-fn put_raw_head(s: &[u8], first: usize, flags: usize, dst: &mut [u8], pos: usize) -> usize
-    ensures { PutsRawHead s.now first flags dst.old pos dst.new result }
+fn put_raw_head(s: &[u8], first: usize, flags: usize, out: &mut Output<'_>)
+    ensures { PutsRawHead s.now first flags out.old out.new }
 {
     let map = flags % 4 + walk::byte(s, first) / 4 % 8 * 4;
-    let next = buffer::put_one(dst, pos, map as u8);
-    walk::put_part(
-        dst,
-        next,
-        s,
-        walk::ahead(s, first, 1),
-        walk::skip_head(s, first),
-    )
+    out.put_one(map as u8);
+    walk::put_part(out, s, walk::ahead(s, first, 1), walk::skip_head(s, first));
 }
 
 // The dictionary number of a field of the train.
-fn put_dict_id(s: &[u8], first: usize, dst: &mut [u8], pos: usize) -> usize
-    ensures { PutsDictId s.now first dst.old pos dst.new result }
+fn put_dict_id(s: &[u8], first: usize, out: &mut Output<'_>)
+    ensures { PutsDictId s.now first out.old out.new }
 {
     walk::put_part(
-        dst,
-        pos,
+        out,
         s,
         walk::skip_front(s, first),
         walk::skip_head(s, first),
-    )
+    );
 }
 
 // The map and the name of an entry that has metadata of its own.
-fn put_name(
-    s: &[u8],
-    first: usize,
-    flags: usize,
-    metadata: bool,
-    dst: &mut [u8],
-    pos: usize,
-) -> usize
-    ensures { PutsName s.now first flags metadata dst.old pos dst.new result }
+fn put_name(s: &[u8], first: usize, flags: usize, metadata: bool, out: &mut Output<'_>)
+    ensures { PutsName s.now first flags metadata out.old out.new }
 {
     let map = walk::byte(s, first);
     let name = walk::ahead(s, first, 1);
     let end = walk::skip_if(s, name, walk::bit(map, 2), walk::skip_text);
     let own = flags % 4 + map / 4 % 2 * 4 + usize::from(metadata) * 8 + map / 16 % 2 * 16;
-    let next = buffer::put_one(dst, pos, own as u8);
-    walk::put_part(dst, next, s, name, end)
+    out.put_one(own as u8);
+    walk::put_part(out, s, name, end);
 }
 
 // The type of at most so many levels that some bytes begin with.
@@ -114,13 +101,12 @@ fn surviving<'a>(accumulated: &'a [u8], incoming: &'a [u8], levels: usize) -> &'
 }
 
 // A type in which nothing was merged: of the first occurrence's, at `own` of the train, and the one at x, the one that survives.
-fn put_raw(s: &[u8], own: usize, x: usize, levels: usize, dst: &mut [u8], pos: usize) -> usize
-    ensures { PutsSurvivor s.now own x levels dst.old pos dst.new result }
+fn put_raw(s: &[u8], own: usize, x: usize, levels: usize, out: &mut Output<'_>)
+    ensures { PutsSurvivor s.now own x levels out.old out.new }
 {
-    let (Some(accumulated), Some(incoming)) = (s.get(own..), s.get(x..)) else {
-        return pos;
-    };
-    buffer::put(dst, pos, surviving(accumulated, incoming, levels))
+    if let (Some(accumulated), Some(incoming)) = (s.get(own..), s.get(x..)) {
+        out.put(surviving(accumulated, incoming, levels));
+    }
 }
 
 // Whether a row of entries has any.
@@ -160,159 +146,142 @@ struct Spelling<'a> {
 impl Spelling<'_> {
     // The count of a row of places, and what stands at each of them in the train, up to where `skip` goes. What passes the longest answer is
     // not gone over.
-    fn put_places<F: Fn(usize) -> usize>(
-        &self,
-        at: usize,
-        dst: &mut [u8],
-        pos: usize,
-        skip: F,
-    ) -> usize
+    fn put_places<F: Fn(usize) -> usize>(&self, at: usize, out: &mut Output<'_>, skip: F)
         requires { F.IsAlwaysCallable skip }
-        ensures { PutsPlaces (F.post skip) self.now.train.now self.now.table.now at dst.old pos dst.new result }
+        ensures { PutsPlaces (F.post skip) self.now.train.now self.now.table.now at out.old out.new }
     {
         let row = PlaceRow::new(self.table, at);
-        let mut next = buffer::put_two(dst, pos, row.count());
+        out.put_two(row.count());
         for place in row {
-            if buffer::MAX_ANSWER_BYTES < next {
-                return next;
+            if buffer::MAX_ANSWER_BYTES < out.written {
+                return;
             }
-            next = walk::put_part(dst, next, self.train, place, skip(place));
+            walk::put_part(out, self.train, place, skip(place));
         }
-        next
     }
 
     // Metadata: nothing, or the count and the pairs.
-    fn put_metadata(&self, at: usize, dst: &mut [u8], pos: usize) -> usize
-        ensures { PutsMetadata self.now.train.now self.now.table.now at dst.old pos dst.new result }
+    fn put_metadata(&self, at: usize, out: &mut Output<'_>)
+        ensures { PutsMetadata self.now.train.now self.now.table.now at out.old out.new }
     {
         if has_places(self.table, at) {
-            return self.put_places(at, dst, pos, |pair| skip_pair(self.train, pair));
+            self.put_places(at, out, |pair| skip_pair(self.train, pair));
         }
-        pos
     }
 
     // The head of an entry.
-    fn put_head(&self, at: usize, dst: &mut [u8], pos: usize) -> usize
-        ensures { PutsHead self.now.train.now self.now.table.now at dst.old pos dst.new result }
+    fn put_head(&self, at: usize, out: &mut Output<'_>)
+        ensures { PutsHead self.now.train.now self.now.table.now at out.old out.new }
     {
         let flags = walk::byte(self.table, at);
         let first = table::three(self.table, walk::ahead(self.table, at, 1));
-        if flags / 4 == 1 {
-            let pairs = walk::ahead(self.table, at, 4);
-            let next = put_name(
-                self.train,
-                first,
-                flags,
-                has_places(self.table, pairs),
-                dst,
-                pos,
-            );
-            let end = self.put_metadata(pairs, dst, next);
-            return put_dict_id(self.train, first, dst, end);
+        if flags / 4 != 1 {
+            return put_raw_head(self.train, first, flags, out);
         }
-        put_raw_head(self.train, first, flags, dst, pos)
+        let pairs = walk::ahead(self.table, at, 4);
+        let metadata = has_places(self.table, pairs);
+        put_name(self.train, first, flags, metadata, out);
+        self.put_metadata(pairs, out);
+        put_dict_id(self.train, first, out);
     }
 
     // What follows the code of a union: the mode, copied from a place of the train, the count and the children.
-    fn put_union(&self, mode: usize, at: usize, levels: usize, dst: &mut [u8], pos: usize) -> usize
-        ensures { PutsUnion self.now.train.now self.now.table.now mode at levels dst.old pos dst.new result }
+    fn put_union(&self, mode: usize, at: usize, levels: usize, out: &mut Output<'_>)
+        ensures { PutsUnion self.now.train.now self.now.table.now mode at levels out.old out.new }
     {
-        let count = put_copy(self.train, mode, dst, pos);
-        self.put_places(at, dst, count, |member| {
-            skip_member(self.train, member, levels)
-        })
+        put_copy(self.train, mode, out);
+        self.put_places(at, out, |member| skip_member(self.train, member, levels));
     }
 
     // A field: the head of its entry and its type.
     #[cycle(putting)]
-    fn put_entry(&self, at: usize, levels: usize, dst: &mut [u8], pos: usize) -> usize
-        ensures { PutsEntry self.now.train.now self.now.table.now at levels dst.old pos dst.new result }
+    fn put_entry(&self, at: usize, levels: usize, out: &mut Output<'_>)
+        ensures { PutsEntry self.now.train.now self.now.table.now at levels out.old out.new }
     {
-        let next = self.put_head(at, dst, pos);
+        self.put_head(at, out);
         let first = table::three(self.table, walk::ahead(self.table, at, 1));
         let own = walk::skip_head(self.train, first);
-        self.put_type(table::skip_head(self.table, at), own, levels, dst, next)
+        self.put_type(table::skip_head(self.table, at), own, levels, out);
     }
 
     // A type: as it stands in the train, or its code and what was merged inside.
     #[cycle(putting)]
-    fn put_type(&self, at: usize, own: usize, levels: usize, dst: &mut [u8], pos: usize) -> usize
-        ensures { PutsType self.now.train.now self.now.table.now at own levels dst.old pos dst.new result }
+    fn put_type(&self, at: usize, own: usize, levels: usize, out: &mut Output<'_>)
+        ensures { PutsType self.now.train.now self.now.table.now at own levels out.old out.new }
     {
         if levels == 0 {
-            return pos;
+            return;
         }
         let x = table::three(self.table, walk::ahead(self.table, at, 1));
         let inner = walk::ahead(self.table, at, 4);
         match table::kind_at(self.table, at) {
-            Kind::Raw => put_raw(self.train, own, x, levels, dst, pos),
+            Kind::Raw => put_raw(self.train, own, x, levels, out),
             Kind::OpenStruct => {
-                let next = put_copy(self.train, x, dst, pos);
-                self.put_row(inner, levels - 1, dst, next)
+                put_copy(self.train, x, out);
+                self.put_row(inner, levels - 1, out);
             }
             Kind::OpenList => {
-                let next = put_copy(self.train, x, dst, pos);
-                self.put_entry(inner, levels - 1, dst, next)
+                put_copy(self.train, x, out);
+                self.put_entry(inner, levels - 1, out);
             }
             Kind::OpenUnion => {
-                let next = put_copy(self.train, x, dst, pos);
-                self.put_union(x + 1, inner, levels - 1, dst, next)
+                put_copy(self.train, x, out);
+                self.put_union(x + 1, inner, levels - 1, out);
             }
         }
     }
 
     // The count of a row's entries, and their fields.
     #[cycle(putting)]
-    fn put_row(&self, at: usize, levels: usize, dst: &mut [u8], pos: usize) -> usize
-        ensures { PutsRow self.now.train.now self.now.table.now at levels dst.old pos dst.new result }
+    fn put_row(&self, at: usize, levels: usize, out: &mut Output<'_>)
+        ensures { PutsRow self.now.train.now self.now.table.now at levels out.old out.new }
     {
-        let first = buffer::put_two(dst, pos, count_entries(self.table, at, levels));
-        self.put_entries(at, levels, dst, first)
+        out.put_two(count_entries(self.table, at, levels));
+        self.put_entries(at, levels, out);
     }
 
     // The fields of a row. What passes the longest answer is not gone over.
     #[cycle(putting)]
-    fn put_entries(&self, at: usize, levels: usize, dst: &mut [u8], pos: usize) -> usize
-        ensures { PutsEntries self.now.train.now self.now.table.now at levels dst.old pos dst.new result }
+    fn put_entries(&self, at: usize, levels: usize, out: &mut Output<'_>)
+        ensures { PutsEntries self.now.train.now self.now.table.now at levels out.old out.new }
     {
         let mut place = at;
-        let mut next = pos;
         while place < self.table.len() {
             if walk::byte(self.table, place) == table::NO_ENTRY {
-                return next;
+                return;
             }
-            if buffer::MAX_ANSWER_BYTES < next {
-                return next;
+            if buffer::MAX_ANSWER_BYTES < out.written {
+                return;
             }
-            next = self.put_entry(place, levels, dst, next);
+            self.put_entry(place, levels, out);
             let behind = table::skip_entry(self.table, place, levels);
             if behind <= place {
-                return next;
+                return;
             }
             place = behind;
         }
-        next
     }
 
     // The columns of a sheet: nothing, or the count and the fields.
-    fn put_columns(&self, at: usize, dst: &mut [u8], pos: usize) -> usize
-        ensures { PutsColumns self.now.train.now self.now.table.now at dst.old pos dst.new result }
+    fn put_columns(&self, at: usize, out: &mut Output<'_>)
+        ensures { PutsColumns self.now.train.now self.now.table.now at out.old out.new }
     {
         if has_entries(self.table, at) {
-            return self.put_row(at, Cursor::LEVELS, dst, pos);
+            self.put_row(at, Cursor::LEVELS, out);
         }
-        pos
     }
 }
 
 // The sheet of the schema that the table w spells, from the train s. It gives the length, also in a buffer that is too short.
 pub fn emit(s: &[u8], w: &[u8], dst: &mut [u8]) -> usize
-    ensures { (x : Schema) (k : ℕ) (y : Bytes) → SpellSchema s.now k y x → Stands w.now 0 y → Puts (sheet_bytes x) dst.old 0 dst.new result }
+    ensures { (x : Schema) (k : ℕ) (y : Bytes) → SpellSchema s.now k y x → Stands w.now 0 y → Fills (sheet_bytes x) dst.old dst.new result }
 {
     let columns = table::skip_places(w, 0);
     let map = usize::from(has_places(w, 0)) + usize::from(has_entries(w, columns)) * 2;
-    let metadata = buffer::put_one(dst, 0, map as u8);
     let spelling = Spelling { train: s, table: w };
-    let next = spelling.put_metadata(0, dst, metadata);
-    spelling.put_columns(columns, dst, next)
+    let mut out = Output::new(dst);
+    out.put_one(map as u8);
+    spelling.put_metadata(0, &mut out);
+    spelling.put_columns(columns, &mut out);
+    out.written
 }

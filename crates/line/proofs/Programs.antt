@@ -14,10 +14,11 @@ use Rattle.model.specs.Call.{Exit, zeros, merge_call}
 use Rattle.model.specs.Program.{line_of, program_line}
 use Rattle.model.proofs.Gives.{choose_true, choose_false}
 use Rattle.std.specs.Prelude.{Result, Err}
+use Rattle.buffer.specs.declared.Output.{Output}
 use Rattle.buffer.specs.declared.refusal.Number.{Number}
 use Rattle.buffer.specs.declared.refusal.Refusal.{Refusal}
 use Rattle.buffer.specs.Refusals.{without_place}
-use Rattle.buffer.specs.Puts.{Puts}
+use Rattle.buffer.specs.Puts.{Puts, Fills}
 use Rattle.buffer.specs.Leaves.{leaves}
 use Rattle.buffer.proofs.Ends.{leaves_refusal}
 use Rattle.buffer.proofs.Pasted.{pasted_zero}
@@ -25,20 +26,20 @@ use Rattle.buffer.proofs.Puts.{puts_same}
 use Rattle.line.specs.Prints.{max_line_bytes, Prints}
 use Rattle.line.proofs.Lengths.{program_line_length}
 
-module _ {w w' : Bytes} {p q : ℕ} where
+module _ {o o' : Output} where
   -- the line for what a call left is that for the call
   pub line_as : (r : Result ℕ Refusal) (answer work : Bytes) {x : Exit} → leaves r answer work ≡ x
-      → ((work : Bytes) → Puts (line_of (leaves r answer work)) w p w' q) → Puts (line_of x) w p w' q
+      → ((work : Bytes) → Puts (line_of (leaves r answer work)) o o') → Puts (line_of x) o o'
   line_as r answer work e f = puts_same (ap line_of e) (f work)
 
   pub too_long : (parked : Bool) (input : Bytes) (x : Refusal) → max_program_bytes < length input → x ≡ without_place Number.InputTooLong
-      → ((work : Bytes) → Puts (line_of (leaves (Err x) [] work)) w p w' q) → Puts (program_line parked input) w p w' q
+      → ((work : Bytes) → Puts (line_of (leaves (Err x) [] work)) o o') → Puts (program_line parked input) o o'
   unfolding program_line
   too_long parked input x h e f =
       puts_same (sym (choose_true _ _ _ (lt-ltb max_program_bytes (length input) h))) (line_as (Err x) [] [] (leaves_refusal _ [] [] (ap Err e)) f)
 
   pub not_too_long : (parked : Bool) (input : Bytes) → length input ≤ max_program_bytes
-      → Puts (line_of (merge_call parked input (zeros (work_bytes_per_sheet_byte * max_program_bytes)) (zeros max_sheet_bytes))) w p w' q → Puts (program_line parked input) w p w' q
+      → Puts (line_of (merge_call parked input (zeros (work_bytes_per_sheet_byte * max_program_bytes)) (zeros max_sheet_bytes))) o o' → Puts (program_line parked input) o o'
   unfolding program_line
   not_too_long parked input h f = puts_same (sym (choose_false _ _ _ (le-ltb max_program_bytes (length input) h))) f
 
@@ -55,7 +56,7 @@ program_line_read parked all = go (ltb max_program_bytes (length all)) refl
     go false e = ap (program_line parked) (take_all (max_program_bytes + 1) all (omega (arith, ltb-false max_program_bytes (length all) e)))
 
 -- no line passes the buffer, and none the longest answer
-pub prints : (parked : Bool) (input : Bytes) {w w' : Bytes} {r : ℕ} → AreBytes input → length w ≡ max_line_bytes → Puts (program_line parked input) w 0 w' r → Prints parked input w w' r
+pub prints : (parked : Bool) (input : Bytes) {w w' : Bytes} {r : ℕ} → AreBytes input → length w ≡ max_line_bytes → Fills (program_line parked input) w w' r → Prints parked input w w' r
 prints parked input {w} byte room f =
     let h = program_line_length parked input byte in
     let n = f.inside (omega (arith, h)) in

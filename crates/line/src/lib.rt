@@ -13,7 +13,7 @@ ghost use Rattle.buffer.specs.Puts.{Puts};
 ghost use Rattle.buffer.specs.Leaves.{leaves};
 ghost use Rattle.line.specs.Prints.{Prints};
 
-use buffer::{Number, Outcome, Refusal};
+use buffer::{Number, Outcome, Output, Refusal};
 
 // "program input above 16,000 bytes"
 pub const MAX_PROGRAM_BYTES: usize = 16000;
@@ -25,66 +25,66 @@ const WORK_BYTES: usize = buffer::WORK_BYTES_PER_SHEET_BYTE * MAX_PROGRAM_BYTES;
 pub const MAX_LINE_BYTES: usize = 4 + 2 * MAX_PROGRAM_BYTES + 1;
 
 // A number in decimal, with no zero in front.
-pub fn put_decimal(dst: &mut [u8], at: usize, n: usize) -> usize
-    ensures { Puts (decimal n) dst.old at dst.new result }
+pub fn put_decimal(out: &mut Output<'_>, n: usize)
+    ensures { Puts (decimal n) out.old out.new }
 {
     let mut digits = itoa::Buffer::new();
-    buffer::put(dst, at, digits.format(n).as_bytes())
+    out.put(digits.format(n).as_bytes());
 }
 
 // Bytes in lower-case hex: two digits each, the higher one first.
-pub fn put_hex(dst: &mut [u8], at: usize, bytes: &[u8]) -> usize
-    ensures { Puts (each hex_byte bytes.now) dst.old at dst.new result }
+pub fn put_hex(out: &mut Output<'_>, bytes: &[u8])
+    ensures { Puts (each hex_byte bytes.now) out.old out.new }
 {
-    let end = at.saturating_add(2 * bytes.len());
-    if end <= dst.len() {
-        let _ = hex::encode_to_slice(bytes, &mut dst[at..end]);
+    for &b in bytes {
+        let mut digits = [0u8; 2];
+        let _ = hex::encode_to_slice(&[b], &mut digits);
+        out.put(&digits);
     }
-    end
 }
 
 // "the answer in lower-case hex or `-`": of its buffer the answer is as many bytes as the call says; a refusal has none. Where the call says
 // more than the buffer has, all of it is taken. The call's work buffer has no part in it, so the promise holds for each.
-fn put_answer(dst: &mut [u8], at: usize, answered: Result<usize, Refusal>, answer: &[u8]) -> usize
-    ensures { (work : Bytes) → Puts (hex_or_minus (leaves answered answer.now work)) dst.old at dst.new result }
+fn put_answer(out: &mut Output<'_>, answered: Result<usize, Refusal>, answer: &[u8])
+    ensures { (work : Bytes) → Puts (hex_or_minus (leaves answered answer.now work)) out.old out.new }
 {
     match answered {
-        Ok(length) => put_hex(dst, at, &answer[..length.min(answer.len())]),
-        Err(_) => buffer::put_one(dst, at, b'-'),
+        Ok(length) => put_hex(out, &answer[..length.min(answer.len())]),
+        Err(_) => out.put_one(b'-'),
     }
 }
 
 // The line for what a call answered, and what it left in its answer buffer.
-pub fn put_line(dst: &mut [u8], answered: Result<usize, Refusal>, answer: &[u8]) -> usize
-    ensures { (work : Bytes) → Puts (line_of (leaves answered answer.now work)) dst.old 0 dst.new result }
+pub fn put_line(out: &mut Output<'_>, answered: Result<usize, Refusal>, answer: &[u8])
+    ensures { (work : Bytes) → Puts (line_of (leaves answered answer.now work)) out.old out.new }
 {
     let outcome = Outcome::from(answered);
-    let number = put_decimal(dst, 0, usize::from(outcome.number));
-    let space = buffer::put_one(dst, number, b' ');
-    let place = put_decimal(dst, space, outcome.place);
-    let second_space = buffer::put_one(dst, place, b' ');
-    let shown = put_answer(dst, second_space, answered, answer);
-    buffer::put_one(dst, shown, b'\n')
+    put_decimal(out, usize::from(outcome.number));
+    out.put_one(b' ');
+    put_decimal(out, outcome.place);
+    out.put_one(b' ');
+    put_answer(out, answered, answer);
+    out.put_one(b'\n');
 }
 
 // The line of the merge of a train, with buffers that are large enough for any train of that size.
-fn put_merged(dst: &mut [u8], train: &[u8], parked: bool) -> usize
-    ensures { Puts (line_of (merge_call parked train.now (zeros (work_bytes_per_sheet_byte * max_program_bytes)) (zeros max_sheet_bytes))) dst.old 0 dst.new result }
+fn put_merged(out: &mut Output<'_>, train: &[u8], parked: bool)
+    ensures { Puts (line_of (merge_call parked train.now (zeros (work_bytes_per_sheet_byte * max_program_bytes)) (zeros max_sheet_bytes))) out.old out.new }
 {
     let mut work = [0u8; WORK_BYTES];
     let mut answer = [0u8; buffer::MAX_ANSWER_BYTES];
     let answered = try_merge::merge(train, &mut work, &mut answer, parked);
-    put_line(dst, answered, &answer)
+    put_line(out, answered, &answer);
 }
 
 // All that the program prints for what it has read: 35 for more than 16,000 bytes, whatever they are, or the merge of the train.
-fn put_program_line(dst: &mut [u8], input: &[u8], parked: bool) -> usize
-    ensures { Puts (program_line parked input.now) dst.old 0 dst.new result }
+fn put_program_line(out: &mut Output<'_>, input: &[u8], parked: bool)
+    ensures { Puts (program_line parked input.now) out.old out.new }
 {
     if MAX_PROGRAM_BYTES < input.len() {
-        return put_line(dst, Err(Refusal::from(Number::InputTooLong)), &[]);
+        return put_line(out, Err(Refusal::from(Number::InputTooLong)), &[]);
     }
-    put_merged(dst, input, parked)
+    put_merged(out, input, parked);
 }
 
 // The same into a buffer that holds every such line: so the line is written whole, whatever was read. The promise also says what is left to
@@ -92,5 +92,7 @@ fn put_program_line(dst: &mut [u8], input: &[u8], parked: bool) -> usize
 pub fn program_line(input: &[u8], line: &mut [u8; MAX_LINE_BYTES], parked: bool) -> usize
     ensures { Prints parked input.now line.old line.new result }
 {
-    put_program_line(line, input, parked)
+    let mut out = Output::new(line);
+    put_program_line(&mut out, input, parked);
+    out.written
 }

@@ -14,7 +14,7 @@ use Rattle.model.specs.Call.{Exit, and_then, sheet_answer, acceptance, settled, 
 use Rattle.std.specs.Prelude.{Result, Ok, Err}
 use Rattle.buffer.specs.declared.refusal.Refusal.{Refusal}
 use Rattle.buffer.specs.Refusals.{numbered}
-use Rattle.buffer.specs.Puts.{Puts, length_number, unless_refused}
+use Rattle.buffer.specs.Puts.{Fills, length_number, unless_refused}
 use Rattle.buffer.specs.Leaves.{leaves}
 use Rattle.buffer.proofs.Ends.{leaves_refusal}
 use Rattle.buffer.proofs.Puts.{put_refused, put_accepted}
@@ -27,7 +27,7 @@ use mathlib.Core.Bool.{Bool}
 -- The end of the call: s is the train, w₀ the work buffer before and w what the merge left in it
 
 abbrev Writes : Bytes → Bytes → Bytes → Bytes → ℕ → Type 0
-Writes s w dst dst' n = (x : Schema) (k : ℕ) (y : Bytes) → SpellSchema s k y x → Stands w 0 y → Puts (sheet_bytes x) dst 0 dst' n
+Writes s w dst dst' n = (x : Schema) (k : ℕ) (y : Bytes) → SpellSchema s k y x → Stands w 0 y → Fills (sheet_bytes x) dst dst' n
 
 -- in either mode
 module _ (parked : Bool) where

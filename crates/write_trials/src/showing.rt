@@ -1,5 +1,5 @@
 // What a trial shows.
-use buffer::{Outcome, Refusal};
+use buffer::{Outcome, Output, Refusal};
 use std::io;
 
 // Makes a call with buffers that hold what every trial here wants, and shows what was called, then the line as the program merge prints it.
@@ -14,7 +14,9 @@ pub fn show<F: FnOnce(&mut [u8], &mut [u8]) -> Result<usize, Refusal>>(
     let mut answer = [0u8; 100];
     let mut line = [0u8; 250];
     let answered = call(&mut work, &mut answer);
-    let length = line::put_line(&mut line, answered, &answer);
+    let mut out = Output::new(&mut line);
+    line::put_line(&mut out, answered, &answer);
+    let length = out.written;
     print!(rt; "{what}: ")?;
     rt.write_all(line.get(..length).unwrap_or(&line))
 }

@@ -9,5 +9,5 @@ use Rattle.emit.proofs.put_name.Goals as goal
 pub returns : goal.returns
 returns c =
     let text = c.skip_if-end.ensures in
-    name_puts c.byte-map.ensures.0 c.ahead-name.ensures _ c.put_part.ensures c.args.metadata (flag_of 8 _ c.from.ensures) c.put_one-next.ensures
+    name_puts c.byte-map.ensures.0 c.ahead-name.ensures _ c.put_part.ensures c.args.metadata (flag_of 8 _ c.from.ensures) c.put_one.ensures
     λ t h. part_if text_bytes _ text.set text.unset t (h ∙ sym c.bit.ensures)

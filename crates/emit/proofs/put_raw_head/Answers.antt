@@ -3,4 +3,4 @@ use Rattle.emit.proofs.Heads.{raw_head_puts}
 use Rattle.emit.proofs.put_raw_head.Goals as goal
 
 pub returns : goal.returns
-returns c = raw_head_puts c.byte.ensures.0 c.ahead.ensures _ c.put_part.ensures c.put_one-next.ensures c.skip_head.ensures
+returns c = raw_head_puts c.byte.ensures.0 c.ahead.ensures _ c.put_part.ensures c.put_one.ensures c.skip_head.ensures

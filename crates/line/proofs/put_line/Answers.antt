@@ -7,4 +7,4 @@ use Rattle.line.proofs.put_line.Goals as goal
 
 pub returns : goal.returns
 returns c work =
-    line_put _ _ _ work c.from-outcome.ensures (puts_same (ap decimal c.from.ensures) c.put_decimal-number.ensures) c.put_one-space.ensures c.put_decimal-place.ensures c.put_one-second_space.ensures (c.put_answer-shown.ensures work) c.put_one.ensures
+    line_put _ _ _ work c.from-outcome.ensures (puts_same (ap decimal c.from.ensures) c.put_decimal.ensures) c.put_one.ensures c.put_decimal-2.ensures c.put_one-2.ensures (c.put_answer.ensures work) c.put_one-3.ensures

@@ -1,52 +1,41 @@
 -- Entries, types and rows. The levels left fall from a type to what it holds, and each function calls on one that stands before it at equal levels.
-use native.Mathlib.Omega.{arith}
-use Rattle.emit.proofs.Types.{no_level, type_raw, type_struct, type_list, type_union}
+use Rattle.emit.proofs.Types.{type_raw, type_struct, type_list, type_union}
 use mathlib.Core.Path.{refl}
 use Rattle.table.proofs.OfKinds.{is_raw, is_struct, is_list, is_union}
-use Rattle.emit.proofs.Rows.{entry_puts, emitting_begin, emitting_out, emitting_beyond, emitting_done, emitting_stuck, emitting_again, row_puts}
-use borrow.Author.Rules.{rules}
+use Rattle.emit.proofs.Rows.{entry_puts, emitting_out, emitting_beyond, emitting_done, emitting_stuck, emitting_again, row_puts}
 use Rattle.emit.proofs.Spelling.+putting.Goals as goal
-
-pub put_entries-loop-place-init : goal.put_entries-loop-place-init
-put_entries-loop-place-init t c = emitting_begin _ _ _ _ _ _
 
 pub put_entries-returns-then-byte-eq-NO_ENTRY : goal.put_entries-returns-then-byte-eq-NO_ENTRY
 put_entries-returns-then-byte-eq-NO_ENTRY t c = emitting_done _ c.loop-place.invariant c.byte.ensures.0 c.if-byte-eq-NO_ENTRY.true
 
-pub put_entries-returns-then-next-gt-MAX_ANSWER_BYTES : goal.put_entries-returns-then-next-gt-MAX_ANSWER_BYTES
-put_entries-returns-then-next-gt-MAX_ANSWER_BYTES t c = emitting_beyond _ c.loop-place.invariant c.if-next-gt-MAX_ANSWER_BYTES.true
+pub put_entries-returns-then-out-gt-MAX_ANSWER_BYTES : goal.put_entries-returns-then-out-gt-MAX_ANSWER_BYTES
+put_entries-returns-then-out-gt-MAX_ANSWER_BYTES t c = emitting_beyond _ c.loop-place.invariant c.if-out-gt-MAX_ANSWER_BYTES.true
 
 pub put_entries-returns-then-behind-place : goal.put_entries-returns-then-behind-place
 put_entries-returns-then-behind-place t c = emitting_stuck _ c.loop-place.invariant c.byte.ensures.0 c.if-byte-eq-NO_ENTRY.false c.skip_entry-behind.ensures c.if-behind-place.true
 
-pub put_entries-loop-place-smaller : goal.put_entries-loop-place-smaller
-put_entries-loop-place-smaller t c = omega (arith, c.loop-place-test.true, c.if-behind-place.false)
-
 pub put_entries-loop-place-preserved : goal.put_entries-loop-place-preserved
-put_entries-loop-place-preserved t c = emitting_again _ c.loop-place.invariant c.byte.ensures.0 c.if-byte-eq-NO_ENTRY.false c.skip_entry-behind.ensures c.put_entry-next.ensures (search rules)
+put_entries-loop-place-preserved t c = emitting_again _ c.loop-place.invariant c.byte.ensures.0 c.if-byte-eq-NO_ENTRY.false c.skip_entry-behind.ensures c.put_entry.ensures
 
 pub put_entries-returns : goal.put_entries-returns
 put_entries-returns t c = emitting_out _ c.loop-place.invariant c.loop-place-test.false
 
 pub put_entry-returns : goal.put_entry-returns
-put_entry-returns t c = entry_puts _ c.put_head-next.ensures c.ahead.ensures c.three-first.ensures.0 c.skip_head.ensures c.skip_head-own.ensures c.put_type.ensures
+put_entry-returns t c = entry_puts _ c.put_head.ensures c.ahead.ensures c.three-first.ensures.0 c.skip_head.ensures c.skip_head-own.ensures c.put_type.ensures
 
 pub put_row-returns : goal.put_row-returns
-put_row-returns t c = row_puts _ c.count_entries.ensures c.put_two-first.ensures c.put_entries.ensures
-
-pub put_type-returns-then-levels-eq0 : goal.put_type-returns-then-levels-eq0
-put_type-returns-then-levels-eq0 t c = no_level _ (omega (arith, c.if-levels-eq0.true))
+put_row-returns t c = row_puts _ c.count_entries.ensures c.put_two.ensures c.put_entries.ensures
 
 pub put_type-returns-in-Raw : goal.put_type-returns-in-Raw
 put_type-returns-in-Raw t c = type_raw _ refl c.ahead.ensures c.three-x.ensures.0 (is_raw c.kind_at.ensures c.in-Raw.is) c.put_raw.ensures
 
 pub put_type-returns-in-OpenStruct : goal.put_type-returns-in-OpenStruct
-put_type-returns-in-OpenStruct t c = type_struct _ refl c.ahead.ensures c.three-x.ensures.0 c.ahead-inner.ensures c.put_copy-next.ensures (is_struct c.kind_at.ensures c.in-OpenStruct.is) c.put_row.ensures
+put_type-returns-in-OpenStruct t c = type_struct _ refl c.ahead.ensures c.three-x.ensures.0 c.ahead-inner.ensures c.put_copy.ensures (is_struct c.kind_at.ensures c.in-OpenStruct.is) c.put_row.ensures
 
 pub put_type-returns-in-OpenList : goal.put_type-returns-in-OpenList
-put_type-returns-in-OpenList t c = type_list _ refl c.ahead.ensures c.three-x.ensures.0 c.ahead-inner.ensures c.put_copy-next-in-OpenList.ensures (is_list c.kind_at.ensures c.in-OpenList.is) c.put_entry.ensures
+put_type-returns-in-OpenList t c = type_list _ refl c.ahead.ensures c.three-x.ensures.0 c.ahead-inner.ensures c.put_copy-in-OpenList.ensures (is_list c.kind_at.ensures c.in-OpenList.is) c.put_entry.ensures
 
 pub put_type-returns-in-OpenUnion : goal.put_type-returns-in-OpenUnion
 put_type-returns-in-OpenUnion t c =
     let other = is_union c.kind_at.ensures c.in-OpenUnion.is in
-    type_union _ refl c.ahead.ensures c.three-x.ensures.0 c.ahead-inner.ensures c.put_copy-next-in-OpenUnion.ensures other.0 other.1 other.2 c.put_union.ensures
+    type_union _ refl c.ahead.ensures c.three-x.ensures.0 c.ahead-inner.ensures c.put_copy-in-OpenUnion.ensures other.0 other.1 other.2 c.put_union.ensures

@@ -17,7 +17,7 @@ abbrev pub decreases-put_type : goal.decreases-put_type
 decreases-put_type l = 8 * l.levels + 0
 
 abbrev pub invariant-put_entries-loop-place : goal.invariant-put_entries-loop-place
-invariant-put_entries-loop-place l = Emitting l.self.train.now l.self.table.now l.at l.levels l.initial.dst l.pos l.place l.dst l.next
+invariant-put_entries-loop-place l = Emitting l.self.train.now l.self.table.now l.at l.levels l.initial.out l.place l.out
 
 abbrev pub decreases-put_entries-loop-place : goal.decreases-put_entries-loop-place
 decreases-put_entries-loop-place l = length l.self.table.now - l.place

@@ -6,5 +6,5 @@ use Rattle.emit.proofs.Spelling.put_metadata.Goals as goal
 pub returns-then-has_places : goal.returns-then-has_places
 returns-then-has_places c = metadata_puts c.has_places.ensures _ c.if-has_places.true (λ place end small i x. search rules) c.put_places.ensures
 
-pub returns : goal.returns
-returns c = no_metadata c.has_places.ensures c.if-has_places.false
+pub returns-else-has_places : goal.returns-else-has_places
+returns-else-has_places c = no_metadata c.has_places.ensures c.if-has_places.false

@@ -1,6 +1,4 @@
 -- `put_places`: one part after the other, up to the end of the row.
-use mathlib.Core.Path.{◌≡◌}
-use lib.ListN.{length}
 use Rattle.emit.proofs.Copies.{Copying}
 use Rattle.emit.proofs.Spelling.put_places.Given as goal
 
@@ -8,5 +6,4 @@ abbrev pub invariant-loop-place : goal.invariant-loop-place
 invariant-loop-place g l =
     (goal.iterator-loop-place g).can_next l.place-iterator
     × (goal.iterator-loop-place g).is_finite l.place-iterator
-    × Copying (goal.F-post g l.skip) l.self.train.now l.self.table.now l.at l.initial.dst l.initial.next l.place-iterator l.dst l.next
-    × (length l.dst ≡ length l.initial.dst)
+    × Copying (goal.F-post g l.skip) l.self.train.now l.self.table.now l.at l.initial.out l.place-iterator l.out
