@@ -264,10 +264,10 @@ module _ (s t : Bytes) where
   asks_begin count at first asked m w = seeks_begin Any pair_bytes t _ first asked
 
   module _ {count at first asked place i : ℕ} (k : Asks s count at t first asked place i) (h : i < asked) {b : Bool} (c : Got s t place at count b) where
-    pub asks_again : {value r : ℕ} → b ≡ true → Text' t place value → Text' t value r → Asks s count at t first asked r (i + 1)
+    pub asks_again : {r : ℕ} → b ≡ true → ((p : Bytes × Bytes) → Skips t place (pair_bytes p) r) → Asks s count at t first asked r (i + 1)
     unfolding contains_metadata all
-    asks_again e f g m w =
-        seeks_again Any pair_bytes t (k m w) h (λ q v. pair_skips f g q) λ q qs v st.
+    asks_again e f m w =
+        seeks_again Any pair_bytes t (k m w) h (λ q v. f q) λ q qs v st.
         ap (λ x. x && contains_metadata m qs) (sym (c q m w.count st w.stands) ∙ e)
 
     pub asks_stop : b ≡ false → Contained s count at t asked first false

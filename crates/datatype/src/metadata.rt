@@ -104,7 +104,7 @@ pub fn contains_metadata(s: &[u8], all: Elements, t: &[u8], asked: Elements) -> 
         if !get_is(s, all, t, place) {
             return false;
         }
-        place = walk::skip_text(t, walk::skip_text(t, place));
+        place = walk::skip_pair(t, place);
     }
     true
 }

@@ -17,7 +17,6 @@ use Rattle.buffer.specs.declared.Output.{Output}
 use Rattle.buffer.specs.Puts.{Puts}
 use Rattle.buffer.proofs.Puts.{puts_same}
 use Rattle.walk.specs.Stands.{Stands, Skips}
-use Rattle.walk.proofs.Standing.{skip_join}
 use Rattle.table.specs.Table.{no_place, Refer, none_left, one_place, places_bytes, Places}
 use Rattle.table.specs.Row.{GivesPlace}
 use Rattle.table.specs.declared.PlaceRow.{PlaceRow}
@@ -170,11 +169,6 @@ module _ {A : Type 0} (write : A → Bytes) where
 pair_long : (x : Bytes × Bytes) → 0 < length (pair_bytes x)
 unfolding pair_bytes text_bytes u16
 pair_long x = omega arith
-
-pub pair_skips : {s : Bytes} {place value end : ℕ} → ((t : Bytes) → Skips s place (text_bytes t) value) → ((t : Bytes) → Skips s value (text_bytes t) end)
-    → (x : Bytes × Bytes) → Skips s place (pair_bytes x) end
-unfolding pair_bytes
-pair_skips f g x = skip_join (f x.0) (g x.1)
 
 module _ {s w : Bytes} {place : ℕ} {o : Output} {b : Bool} (f : HasPlaces w place b) where
   pub metadata_puts : (ends : ℕ → ℕ → Type 0) {o' : Output} → b ≡ true → ((place end : ℕ) → place < no_place → ends place end → (x : Bytes × Bytes) → Skips s place (pair_bytes x) end)

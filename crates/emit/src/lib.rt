@@ -33,20 +33,6 @@ fn has_places(w: &[u8], at: usize) -> bool
     PlaceRow::new(w, at).next().is_some()
 }
 
-// A pair of the train.
-fn skip_pair(s: &[u8], at: usize) -> usize
-    ensures { (p : Bytes × Bytes) → Skips s.now at (pair_bytes p) result }
-{
-    walk::skip_text(s, walk::skip_text(s, at))
-}
-
-// A union child of the train: its id and its field.
-fn skip_member(s: &[u8], at: usize, levels: usize) -> usize
-    ensures { (l : ℕ) (f : Field l) → l ≤ levels → Whole l f.data_type → Skips s.now at (member_bytes l f) result }
-{
-    walk::skip_field(s, walk::ahead(s, at, 1), levels)
-}
-
 // The head of an entry that has no metadata of its own: that of the first occurrence, which stands at a place of the train, but for the
 // two lowest bits of its map.
 fn put_raw_head(s: &[u8], first: usize, flags: usize, out: &mut Output<'_>)
@@ -165,7 +151,7 @@ impl Spelling<'_> {
         ensures { PutsMetadata self.now.train.now self.now.table.now at out.old out.new }
     {
         if has_places(self.table, at) {
-            self.put_places(at, out, |pair| skip_pair(self.train, pair));
+            self.put_places(at, out, |pair| walk::skip_pair(self.train, pair));
         }
     }
 
@@ -190,7 +176,11 @@ impl Spelling<'_> {
         ensures { PutsUnion self.now.train.now self.now.table.now mode at levels out.old out.new }
     {
         put_copy(self.train, mode, out);
-        self.put_places(at, out, |member| skip_member(self.train, member, levels));
+        self.put_places(
+            at,
+            out,
+            |member| walk::skip_member(self.train, member, levels),
+        );
     }
 
     // A field: the head of its entry and its type.

@@ -38,6 +38,9 @@ SkipsRow s place count before levels r =
 abbrev pub member_bytes : (l : ℕ) → Field l → Bytes
 member_bytes l k = k.head.type_id ∷ field_bytes (type_bytes l) k
 
+abbrev pub SkipsMember : (s : Bytes) (place levels r : ℕ) → Type 0
+SkipsMember s place levels r = (l : ℕ) (f : Field l) → l ≤ levels → LaidOut l f.data_type → Skips s place (member_bytes l f) r
+
 -- the children of a type, of a kind
 abbrev pub SkipsChildren : (s : Bytes) (place : ℕ) → Children → (levels r : ℕ) → Type 0
 SkipsChildren s place k levels r =

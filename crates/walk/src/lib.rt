@@ -11,7 +11,7 @@ ghost use Rattle.model.specs.Sheet.{front_bytes, each, with_count, text_bytes, p
 ghost use Rattle.model.specs.WellFormed.{WellFormedParams};
 ghost use Rattle.model.specs.Datatype.{holds_fields};
 ghost use Rattle.buffer.specs.Puts.{Puts};
-ghost use Rattle.walk.specs.Stands.{Stands, Skips, SkipsType, SkipsField, SkipsRow, SkipsChildren, TellsNested, SkipsSheetHead, ColumnsAt, SkipsSheet};
+ghost use Rattle.walk.specs.Stands.{Stands, Skips, SkipsType, SkipsField, SkipsMember, SkipsRow, SkipsChildren, TellsNested, SkipsSheetHead, ColumnsAt, SkipsSheet};
 ghost use Rattle.layout.specs.Kinds.{params_of};
 ghost use Rattle.walk.specs.Widths.{width};
 
@@ -100,14 +100,20 @@ pub fn skip_text(s: &[u8], at: usize) -> usize
     skip_counted(s, at)
 }
 
+// A key and its value.
+pub fn skip_pair(s: &[u8], at: usize) -> usize
+    ensures { (p : Bytes × Bytes) → Skips s.now at (pair_bytes p) result }
+{
+    skip_text(s, skip_text(s, at))
+}
+
 // So many keys and values.
 fn skip_pairs(s: &[u8], pairs: Elements) -> usize
     ensures { (m : Metadata) → length m ≡ pairs.count → Skips s.now pairs.at (each pair_bytes m) result }
 {
     let mut place = pairs.at;
     for _ in 0..pairs.count {
-        let value = skip_text(s, place);
-        place = skip_text(s, value);
+        place = skip_pair(s, place);
     }
     place
 }
@@ -197,6 +203,13 @@ pub fn skip_field(s: &[u8], at: usize, levels: usize) -> usize
         return ahead(s, data_type, 1);
     }
     skip_type(s, data_type, levels)
+}
+
+// A union's child of at most so many levels: its id and its field.
+pub fn skip_member(s: &[u8], at: usize, levels: usize) -> usize
+    ensures { SkipsMember s.now at levels result }
+{
+    skip_field(s, ahead(s, at, 1), levels)
 }
 
 // A type of at most so many levels, itself among them.

@@ -9,7 +9,7 @@ pub returns-then-not-get_is : goal.returns-then-not-get_is
 returns-then-not-get_is c = asks_stop _ _ c.loop.invariant c.loop-test.true c.get_is.ensures c.if-not-get_is.true
 
 pub loop-preserved : goal.loop-preserved
-loop-preserved c = asks_again _ _ c.loop.invariant c.loop-test.true c.get_is.ensures c.if-not-get_is.false c.skip_text.ensures c.skip_text-place.ensures
+loop-preserved c = asks_again _ _ c.loop.invariant c.loop-test.true c.get_is.ensures c.if-not-get_is.false c.skip_pair-place.ensures
 
 pub returns : goal.returns
 returns c = asks_done _ _ c.loop.invariant c.loop-test.false
