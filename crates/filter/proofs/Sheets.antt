@@ -4,56 +4,59 @@ use native.Mathlib.Omega.{arith}
 use mathlib.Core.Path.{◌≡◌, refl, sym, ap, subst, ◌∙◌}
 use mathlib.Core.List.{List, [], ◌∷◌, ◌++◌, append-nil}
 use mathlib.Core.Bool.{Bool, true, false, false≢true}
-use lib.ListN.{length, get_or, length-append}
+use lib.ListN.{length, drop, get_or, length-append}
 use Rattle.model.specs.Numbers.{max_levels, max_sheet_bytes}
 use Rattle.model.specs.Bytes.{Bytes, Metadata, choose, bit, flag}
-use Rattle.model.specs.Tree.{Field}
+use Rattle.model.specs.Tree.{Field, Schema}
 use Rattle.model.specs.Sheet.{part, stands, with_count, pair_bytes, column_bytes, sheet_bytes}
 use Rattle.model.specs.Filter.{filter_each, leaf_count_of_each, leaf_count, filter_columns}
 use Rattle.model.proofs.Size.{length_with_count}
 use Rattle.model.proofs.WellFormed.{columns_laid_out}
-use Rattle.walk.specs.Stands.{Stands, Skips, AllLaidOut}
-use Rattle.walk.proofs.Standing.{whole_stands, first_stands, byte_stands, stands_behind, skip_ahead, skip_join}
-use Rattle.walk.proofs.Parts.{Ahead, part_if, sheet_metadata_set, sheet_columns_set}
+use Rattle.walk.specs.Stands.{Stands, Skips, AllLaidOut, SkipsSheetHead, sheet_head}
+use Rattle.walk.proofs.Standing.{whole_stands, first_stands, byte_stands, stands_behind}
+use Rattle.walk.proofs.Schemas.{columns_bit}
+use Rattle.buffer.specs.declared.Output.{Output}
 use Rattle.buffer.specs.Puts.{Puts}
 use Rattle.filter.specs.declared.Reach.{Reach}
-use Rattle.filter.specs.Filters.{Begins, Fair, Passed, FiltersCounted, ColumnsKept, FiltersColumns, FiltersSheet, leaves_of_all, filtered}
+use Rattle.filter.specs.Filters.{Begins, Fair, Passed, CopiesTo, back_to, FiltersCounted, Kept, ColumnsKept, FiltersColumns, FiltersSheet, leaves_of_all, filtered}
 use Rattle.filter.proofs.Walking.{begins_over, filters_copied}
-use Rattle.filter.proofs.Fields.{Copies}
 
 -- The columns
 
 -- the walk behind the map and the bytes m, of which these columns are left
-abbrev Behind : (s : Bytes) (place : ℕ) (cs kept : List (Field max_levels)) (m w' : Bytes) (r : Reach) → Type 0
-Behind s place cs kept m w' r =
-    Passed s (with_count column_bytes cs) (leaves_of_all max_levels cs) (part (with_count column_bytes) kept) place 0 (get_or s 0 0 ∷ m) r.at r.leaf w' r.written
+abbrev Behind : (s : Bytes) (cs kept : List (Field max_levels)) (m : Bytes) (from : Reach) (o o' : Output) (r : Reach) → Type 0
+Behind s cs kept m from o o' r = Passed s (with_count column_bytes cs) (leaves_of_all max_levels cs) (part (with_count column_bytes) kept) from o (get_or s 0 0 ∷ m) o' r
 
-module _ {s : Bytes} {place : ℕ} (mask : Bytes) {w : Bytes} {p : ℕ} {w₁ : Bytes} {reach : Reach} (f : FiltersCounted s place 0 max_levels mask 0 w p w₁ reach) where
-  columns_passed : (cs : List (Field max_levels)) (m : Bytes) → AllLaidOut max_levels cs → Stands s place (with_count column_bytes cs) → Fair s place 0 w p
-      → Begins w p (get_or s 0 0 ∷ m) → Behind s place cs (filter_columns cs mask).kept m w₁ reach
+module _ {s : Bytes} (mask : Bytes) {from : Reach} {o o₁ : Output} {reach : Reach} (f : FiltersCounted s 0 max_levels mask from o o₁ reach) where
+  columns_passed : (cs : List (Field max_levels)) (m : Bytes) → AllLaidOut max_levels cs → Stands s from.at (with_count column_bytes cs) → Fair s from o
+      → Begins o (get_or s 0 0 ∷ m) → Behind s cs (filter_columns cs (drop from.leaf mask)).kept m from o o₁ reach
   unfolding filter_columns
   columns_passed cs m z st h g = (f max_levels (λ h. []) cs (λ h. refl) (omega arith) z).does (get_or s 0 0 ∷ m) st h g
 
-  -- the position is where it was: none is left, and the map loses its bit
-  pub columns_gone : {byte : ℕ} {w₂ : Bytes} {q : ℕ} → reach.written ≡ p → byte ≡ get_or s 0 0 → Puts (byte % 2 ∷ []) w₁ 0 w₂ q → FiltersColumns s place mask w p w₂ reach
+  -- as much was put as before: none is left, and the map loses its bit
+  pub columns_gone : {byte : ℕ} {o₂ : Output} → o₁.written ≡ o.written → byte ≡ get_or s 0 0 → Puts (byte % 2 ∷ []) (back_to 0 o₁) o₂ → FiltersColumns s mask from o (back_to o.written o₂) reach
   unfolding choose
-  columns_gone {byte} {w₂} {q} e i put = record { does = λ cs m z st h g. go cs m (filter_columns cs mask).kept g (columns_passed cs m z st h g) }
+  columns_gone {byte} {o₂} e i put = record { does = λ cs m z st h g. go cs m (filter_columns cs (drop from.leaf mask)).kept g (columns_passed cs m z st h g) }
     where
-      go : (cs : List (Field max_levels)) (m : Bytes) (kept : List (Field max_levels)) → Begins w p (get_or s 0 0 ∷ m) → Behind s place cs kept m w₁ reach → ColumnsKept s cs kept m w₂ reach
-      go cs m [] g d = (
-        omega (arith, d.leaves),
-        begins_over [] (get_or s 0 0 ∷ []) (get_or s 0 0 % 2 ∷ []) (m ++ []) d.begins refl refl (subst (λ b. Puts (b % 2 ∷ []) w₁ 0 w₂ q) i put) (omega arith),
-      )
+      go : (cs : List (Field max_levels)) (m : Bytes) (kept : List (Field max_levels)) → Begins o (get_or s 0 0 ∷ m) → Behind s cs kept m from o o₁ reach
+          → ColumnsKept s cs kept m from o (back_to o.written o₂) reach
+      go cs m [] g d = record {
+        leaves = d.leaves;
+        same_buffer = put.same_buffer ∙ d.same_buffer;
+        begins = subst (λ p. Begins (back_to p o₂) (get_or s 0 0 % 2 ∷ (m ++ []))) e
+            (begins_over [] (get_or s 0 0 ∷ []) (get_or s 0 0 % 2 ∷ []) (m ++ []) d.begins refl refl (subst (λ b. Puts (b % 2 ∷ []) (back_to 0 o₁) o₂) i put) (omega arith));
+      }
       go cs m (k ∷ ks) g d =
           absurd (omega (arith, e, g.end, d.begins.end, length-append (get_or s 0 0 ∷ m) (with_count column_bytes (k ∷ ks)), length_with_count column_bytes (k ∷ ks)))
 
-  pub columns_left : (reach.written ≡ p → ⊥) → FiltersColumns s place mask w p w₁ reach
+  pub columns_left : (o₁.written ≡ o.written → ⊥) → FiltersColumns s mask from o o₁ reach
   unfolding choose
-  columns_left e = record { does = λ cs m z st h g. go cs m (filter_columns cs mask).kept g (columns_passed cs m z st h g) }
+  columns_left e = record { does = λ cs m z st h g. go cs m (filter_columns cs (drop from.leaf mask)).kept g (columns_passed cs m z st h g) }
     where
-      go : (cs : List (Field max_levels)) (m : Bytes) (kept : List (Field max_levels)) → Begins w p (get_or s 0 0 ∷ m) → Behind s place cs kept m w₁ reach → ColumnsKept s cs kept m w₁ reach
+      go : (cs : List (Field max_levels)) (m : Bytes) (kept : List (Field max_levels)) → Begins o (get_or s 0 0 ∷ m) → Behind s cs kept m from o o₁ reach
+          → ColumnsKept s cs kept m from o o₁ reach
       go cs m [] g d = absurd (e (omega (arith, g.end, d.begins.end, length-append (get_or s 0 0 ∷ m) [])))
-      go cs m (k ∷ ks) g d = (omega (arith, d.leaves), d.begins)
+      go cs m (k ∷ ks) g d = record { leaves = d.leaves; same_buffer = d.same_buffer; begins = d.begins }
 
 -- The sheet
 
@@ -65,52 +68,53 @@ map_left true false = refl
 map_left false true = refl
 map_left false false = refl
 
-module _ {s w : Bytes} {map metadata place : ℕ} {set : Bool} {w₁ : Bytes} {start : ℕ} (e : map ≡ get_or s 0 0) (a : Ahead s 0 1 metadata) (b : set ≡ bit 0 map)
-    (f : set ≡ true → (m : Metadata) → Skips s metadata (with_count pair_bytes m) place) (g : set ≡ false → place ≡ metadata) (put : Copies s 0 place w 0 w₁ start) where
+module _ {s : Bytes} {place : ℕ} {o o₁ : Output} {start : Reach} (head : SkipsSheetHead s 0 place) (copy : CopiesTo s (record { at = 0; leaf = 0 }) place o o₁ start)
+    {map : ℕ} {t : Bool} (e : map ≡ get_or s 0 0) (b : t ≡ bit 1 map) where
   -- the map and the metadata are copied
-  front_copied : (m : Metadata) (cs : List (Field max_levels)) → s ≡ sheet_bytes (record { metadata = m; columns = cs }) → length s ≤ max_sheet_bytes → length s ≤ length w
-      → let front = (flag 1 (stands m) + flag 2 (stands cs)) ∷ part (with_count pair_bytes) m in
-      Stands s 0 (front ++ part (with_count column_bytes) cs) × Skips s 0 front place × Passed s front 0 front 0 0 [] place 0 w₁ start
+  head_copied : (x : Schema) → s ≡ sheet_bytes x → length s ≤ max_sheet_bytes → length s ≤ length o.buffer.now → o.written ≡ 0
+      → Passed s (sheet_head x) 0 (sheet_head x) (record { at = 0; leaf = 0 }) o [] o₁ (record { at = place; leaf = 0 })
   unfolding sheet_bytes
-  front_copied m cs i small room =
-      let front = (flag 1 (stands m) + flag 2 (stands cs)) ∷ part (with_count pair_bytes) m in
-      let st = whole_stands s (front ++ part (with_count column_bytes) cs) i in
-      let here : stands m ≡ set = sym (b ∙ ap (bit 0) (e ∙ byte_stands st) ∙ sheet_metadata_set (stands m) (stands cs)) in
-      let skip = skip_join (skip_ahead ((flag 1 (stands m) + flag 2 (stands cs)) ∷ []) refl a.1) (part_if (with_count pair_bytes) set f g m here) in (
-        st,
-        skip,
-        (filters_copied front skip put).does [] (first_stands front (part (with_count column_bytes) cs) st)
-            (record { small = small; room = room; leaves = omega arith; written = omega arith }) (record { end = refl; rest = w; bytes = refl }),
-      )
+  head_copied x i small room z =
+      let st = whole_stands s (sheet_bytes x) i in
+      (filters_copied (sheet_head x) (head x st) copy.puts).does [] (first_stands (sheet_head x) (part (with_count column_bytes) x.columns) st)
+      (record { small = small; room = room; leaves = omega arith; written = omega (arith, z) }) (record { end = z; rest = o.buffer.now; bytes = refl })
 
-  columns_bit : (m : Metadata) (cs : List (Field max_levels)) → s ≡ sheet_bytes (record { metadata = m; columns = cs }) → bit 1 map ≡ stands cs
-  unfolding sheet_bytes
-  columns_bit m cs i = ap (bit 1) (e ∙ byte_stands (whole_stands s _ i)) ∙ sheet_columns_set (stands m) (stands cs)
-
-  pub sheet_columns : {t : Bool} {mask w₂ : Bytes} {r : Reach} → t ≡ bit 1 map → t ≡ true → FiltersColumns s place mask w₁ start w₂ r → FiltersSheet s mask w w₂ r
+  pub sheet_columns : {mask : Bytes} {o₂ : Output} {r : Reach} → t ≡ true → FiltersColumns s mask start o₁ o₂ r → FiltersSheet s mask o o₂ r
   unfolding sheet_bytes leaf_count
-  sheet_columns {t} {mask} {w₂} {r} o h g = record { does = λ x good i small room. go x.metadata x.columns (columns_laid_out x good) i small room }
+  sheet_columns {mask} {o₂} {r} h g = record { does = λ x good i small room z. go x.metadata x.columns (columns_laid_out x good) i (head_copied x i small room z) }
     where
-      go : (m : Metadata) (cs : List (Field max_levels)) → AllLaidOut max_levels cs → s ≡ sheet_bytes (record { metadata = m; columns = cs }) → length s ≤ max_sheet_bytes → length s ≤ length w
-          → (r.leaf ≡ leaves_of_all max_levels cs) × Begins w₂ r.written (sheet_bytes (filtered (record { metadata = m; columns = cs }) mask))
-      go m [] z i small room = absurd (false≢true (sym (columns_bit m [] i) ∙ sym o ∙ h))
-      go m (c ∷ cs) z i small room =
+      columns : FiltersColumns s mask (record { at = place; leaf = 0 }) o₁ o₂ r
+      columns = subst (λ y. FiltersColumns s mask y o₁ o₂ r) copy.behind g
+
+      go : (m : Metadata) (cs : List (Field max_levels)) → let x : Schema = record { metadata = m; columns = cs } in
+          AllLaidOut max_levels cs → s ≡ sheet_bytes x → Passed s (sheet_head x) 0 (sheet_head x) (record { at = 0; leaf = 0 }) o [] o₁ (record { at = place; leaf = 0 })
+          → Kept (leaf_count x) (sheet_bytes (filtered x mask)) o o₂ r
+      go m [] z i d = absurd (false≢true (sym (columns_bit e head b (record { metadata = m; columns = [] }) (whole_stands s _ i)) ∙ h))
+      go m (c ∷ cs) z i d =
+          let x : Schema = record { metadata = m; columns = c ∷ cs } in
+          let st = whole_stands s (sheet_bytes x) i in
           let front = part (with_count pair_bytes) m in
-          let q = front_copied m (c ∷ cs) i small room in
-          let byte : flag 1 (stands m) + flag 2 true ≡ get_or s 0 0 = sym (byte_stands q.0) in
+          let byte : flag 1 (stands m) + flag 2 true ≡ get_or s 0 0 = sym (byte_stands st) in
           let kept = (filter_columns (c ∷ cs) mask).kept in
-          let d = g.does (c ∷ cs) front z (stands_behind q.1 q.0) q.2.fair (subst (λ n. Begins w₁ start (n ∷ front)) byte q.2.begins) in
+          let k = columns.does (c ∷ cs) front z (stands_behind (head x st) st) d.fair (subst (λ n. Begins o₁ (n ∷ front)) byte d.begins) in
           let same : choose (stands kept) (λ u. get_or s 0 0) (λ u. get_or s 0 0 % 2) ≡ flag 1 (stands m) + flag 2 (stands kept) =
           sym (ap (λ n. choose (stands kept) (λ u. n) (λ u. n % 2)) byte) ∙ map_left (stands m) (stands kept) in
-          (d.0, subst (λ n. Begins w₂ r.written (n ∷ (front ++ part (with_count column_bytes) kept))) same d.1)
+          record {
+            leaves = omega (arith, k.leaves);
+            same_buffer = k.same_buffer ∙ d.same_buffer;
+            begins = subst (λ n. Begins o₂ (n ∷ (front ++ part (with_count column_bytes) kept))) same k.begins;
+          }
 
-  pub sheet_bare : {t : Bool} {mask : Bytes} → t ≡ bit 1 map → t ≡ false → FiltersSheet s mask w w₁ (record { at = place; leaf = 0; written = start })
+  pub sheet_bare : {mask : Bytes} → t ≡ false → FiltersSheet s mask o o₁ start
   unfolding sheet_bytes leaf_count leaf_count_of_each filter_columns filter_each
-  sheet_bare {t} {mask} o h = record { does = λ x good i small room. go x.metadata x.columns i small room }
+  sheet_bare {mask} h = record { does = λ x good i small room z. go x.metadata x.columns i (head_copied x i small room z) }
     where
-      go : (m : Metadata) (cs : List (Field max_levels)) → s ≡ sheet_bytes (record { metadata = m; columns = cs }) → length s ≤ max_sheet_bytes → length s ≤ length w
-          → (0 ≡ leaves_of_all max_levels cs) × Begins w₁ start (sheet_bytes (filtered (record { metadata = m; columns = cs }) mask))
-      go m [] i small room =
-          let q = front_copied m [] i small room in
-          (refl, subst (λ b. Begins w₁ start ((flag 1 (stands m) + flag 2 false) ∷ b)) (sym (append-nil (part (with_count pair_bytes) m))) q.2.begins)
-      go m (c ∷ cs) i small room = absurd (false≢true (sym h ∙ o ∙ columns_bit m (c ∷ cs) i))
+      go : (m : Metadata) (cs : List (Field max_levels)) → let x : Schema = record { metadata = m; columns = cs } in
+          s ≡ sheet_bytes x → Passed s (sheet_head x) 0 (sheet_head x) (record { at = 0; leaf = 0 }) o [] o₁ (record { at = place; leaf = 0 })
+          → Kept (leaf_count x) (sheet_bytes (filtered x mask)) o o₁ start
+      go m [] i d = record {
+        leaves = ap (λ r. r.leaf) copy.behind;
+        same_buffer = d.same_buffer;
+        begins = subst (λ b. Begins o₁ ((flag 1 (stands m) + flag 2 false) ∷ b)) (sym (append-nil (part (with_count pair_bytes) m))) d.begins;
+      }
+      go m (c ∷ cs) i d = absurd (false≢true (sym h ∙ columns_bit e head b (record { metadata = m; columns = c ∷ cs }) (whole_stands s _ i)))

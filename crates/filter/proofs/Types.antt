@@ -1,5 +1,5 @@
 -- Types and their children: what is kept of each, from what the code's steps keep.
-use Prim.Native.Nat.{ℕ, zero, suc, ◌-◌, ◌≤◌}
+use Prim.Native.Nat.{ℕ, zero, suc, ◌+◌, ◌-◌, ◌≤◌}
 use native.Mathlib.Omega.{arith}
 use native.Mathlib.Nat.{add-zero}
 use mathlib.Core.Path.{◌≡◌, refl, sym, ap, subst, ◌∙◌}
@@ -21,8 +21,9 @@ use Rattle.walk.specs.Stands.{Stands, Skips, SkipsType, SkipsField, AllLaidOut}
 use Rattle.walk.proofs.Standing.{first_stands, second_stands, skip_ahead, skip_join}
 use Rattle.walk.proofs.Parts.{Ahead}
 use Rattle.walk.proofs.Descents.{code_stands}
+use Rattle.buffer.specs.declared.Output.{Output}
 use Rattle.filter.specs.declared.Reach.{Reach}
-use Rattle.filter.specs.Filters.{CopiesTo, first_bytes, Sifts, alone, below, unless_nothing, TypeSifted, InnerSifted, KindFiltered, HolderFiltered, FiltersType, FiltersField, FiltersCounted, FiltersChildren, FiltersNested, FiltersInner, FiltersEncoded, leaves_of, leaves_of_all, kept_of, kept_of_all}
+use Rattle.filter.specs.Filters.{CopiesTo, taken_back, first_bytes, Sifts, alone, below, TypeSifted, InnerSifted, KindFiltered, HolderFiltered, FiltersType, FiltersField, FiltersCounted, FiltersChildren, FiltersNested, FiltersInner, FiltersEncoded, leaves_of, leaves_of_all, kept_of, kept_of_all}
 use Rattle.filter.proofs.Walking.{filters_none, filters_as, filters_copied, filters_fronted, filters_undone}
 use Rattle.filter.proofs.Fields.{part_some, type_some, field_some}
 
@@ -46,28 +47,25 @@ module _ (l : ℕ) (k : Field l) where
       go [] = refl
       go (k ∷ ks) = refl
 
-module _ {s : Bytes} {place : ℕ} (code levels : ℕ) (mask : Bytes) {next : ℕ} {w : Bytes} {p : ℕ} {w' : Bytes} {r : Reach} where
-  by_code : (c : ℕ) → code ≡ c → FiltersChildren s place c levels mask next w p w' r → FiltersChildren s place code levels mask next w p w' r
-  by_code c e f = subst (λ c. FiltersChildren s place c levels mask next w p w' r) (sym e) f
+module _ {s : Bytes} (code levels : ℕ) (mask : Bytes) {from : Reach} {o o' : Output} {r : Reach} where
+  by_code : (c : ℕ) → code ≡ c → FiltersChildren s c levels mask from o o' r → FiltersChildren s code levels mask from o o' r
+  by_code c e f = subst (λ c. FiltersChildren s c levels mask from o o' r) (sym e) f
 
-  pub struct_filtered : code ≡ Struct → FiltersCounted s place 0 levels mask next w p w' r → FiltersChildren s place code levels mask next w p w' r
+  pub struct_filtered : code ≡ Struct → FiltersCounted s 0 levels mask from o o' r → FiltersChildren s code levels mask from o o' r
   unfolding layout table children_bytes
   struct_filtered e f = by_code Struct e λ l ks h c n z. f l (λ h. []) ks (λ h. refl) h z
 
-  pub union_filtered : code ≡ Union → FiltersCounted s place 1 levels mask next w p w' r → FiltersChildren s place code levels mask next w p w' r
+  pub union_filtered : code ≡ Union → FiltersCounted s 1 levels mask from o o' r → FiltersChildren s code levels mask from o o' r
   unfolding layout table children_bytes
   union_filtered e f = by_code Union e λ l ks h c n z. f l (λ h. h.type_id ∷ []) ks (λ h. refl) h z
 
-  pub others_filtered : (code ≡ Struct → ⊥) → (code ≡ Union → ⊥) → FiltersField s place levels mask next w p w' r → FiltersChildren s place code levels mask next w p w' r
+  pub others_filtered : (code ≡ Struct → ⊥) → (code ≡ Union → ⊥) → FiltersField s levels mask from o o' r → FiltersChildren s code levels mask from o o' r
   others_filtered a b f l ks h c =
-      subst (λ k. CountFits k ks → AllLaidOut l ks
-      → KindFiltered s mask l k ks place next w p w' r)
-      (sym (held_child code c a b)) (go ks)
+      subst (λ k. CountFits k ks → AllLaidOut l ks → KindFiltered s mask l k ks from o o' r) (sym (held_child code c a b)) (go ks)
     where
-      go : (ks : List (Field l)) → length ks ≡ 1 → AllLaidOut l ks
-          → KindFiltered s mask l (fields 1) ks place next w p w' r
+      go : (ks : List (Field l)) → length ks ≡ 1 → AllLaidOut l ks → KindFiltered s mask l (fields 1) ks from o o' r
       go [] n z = absurd (omega (arith, n))
-      go (k ∷ []) n z = filters_as (one_bytes l k) (one_leaves l k) (one_kept l k (drop next mask)) (f l k h z.0)
+      go (k ∷ []) n z = filters_as (one_bytes l k) (one_leaves l k) (one_kept l k (drop from.leaf mask)) (f l k h z.0)
       go (k ∷ x ∷ ks) n z = absurd (omega (arith, n))
 
 -- A type that holds fields
@@ -91,20 +89,18 @@ nested_kept l t [] = refl
 nested_kept l t (k ∷ ks) =
     part_some (λ k. (t.code ∷ t.params) ++ k) (children_bytes (type_bytes l) (layout t.code).children (k ∷ ks)) (children_some l (layout t.code).children k ks)
 
-module _ {s : Bytes} {from : Reach} (code levels : ℕ) (mask : Bytes) {w w₁ : Bytes} {start : Reach} {w₂ : Bytes} {reach o : Reach} where
+module _ {s : Bytes} {from : Reach} (code levels : ℕ) (mask : Bytes) {o o₁ : Output} {start : Reach} {o₂ o₃ : Output} {reach : Reach} where
   pub nested_filtered : {params children : ℕ} → Ahead s from.at 1 params → ((b : Bytes) → WellFormedParams (layout code).params b → Skips s params b children)
-      → CopiesTo s from children w w₁ start → FiltersChildren s start.at code levels mask start.leaf w₁ start.written w₂ reach
-      → o ≡ unless_nothing from.written start.written reach → FiltersNested s from.at code levels mask from.leaf w from.written w₂ o
+      → CopiesTo s from children o o₁ start → FiltersChildren s code levels mask start o₁ o₂ reach → o₃ ≡ taken_back o.written o₁.written o₂
+      → FiltersNested s code levels mask from o o₃ reach
   unfolding type_bytes
   nested_filtered {params} {children} a f copy g u l t h e c z =
-      let filtered = subst (λ y. FiltersChildren s y.at code levels mask y.leaf w₁ y.written w₂ reach) copy.behind g in
+      let filtered = subst (λ y. FiltersChildren s code levels mask y o₁ o₂ reach) copy.behind g in
       let kids = subst (λ c. holds_fields c ≡ true → CountFits (layout c).children t.children → AllLaidOut l t.children
-      → KindFiltered s mask l (layout c).children t.children children from.leaf w₁ start.written w₂ reach)
+      → KindFiltered s mask l (layout c).children t.children (record { at = children; leaf = from.leaf }) o₁ o₂ reach)
       e (filtered l t.children h) in
-      subst (HolderFiltered s mask l t from.at from.leaf w from.written w₂)
-      (sym u)
-      (filters_as refl refl (nested_kept l t (kept_of_all l t.children (drop from.leaf mask)))
-      (filters_fronted (filters_copied (t.code ∷ t.params) (front_skips code a f l t e z) copy.puts) (kids (sym (ap holds_fields e) ∙ c) z.1 z.2)))
+      filters_as refl refl (nested_kept l t (kept_of_all l t.children (drop from.leaf mask)))
+      (filters_fronted (filters_copied (t.code ∷ t.params) (front_skips code a f l t e z) copy.puts) (kids (sym (ap holds_fields e) ∙ c) z.1 z.2) u)
 
 -- A type and what stands before it
 
@@ -112,37 +108,36 @@ inner_kept : (l : ℕ) (a : Bytes) (ts : List (DataType l)) → part (λ k. a ++
 inner_kept l a [] = refl
 inner_kept l a (t ∷ ts) = part_some (λ k. a ++ k) (type_bytes l t) (type_some l t)
 
-module _ {s : Bytes} {from : Reach} {inner : ℕ} (levels : ℕ) (mask : Bytes) {w w₁ : Bytes} {start : Reach} {w₂ : Bytes} {r : Option Reach}
-    (copy : CopiesTo s from inner w w₁ start) (type : FiltersType s start.at levels false mask start.leaf w₁ start.written w₂ r) where
-  type_filtered : FiltersType s inner levels false mask from.leaf w₁ start.written w₂ r
-  type_filtered = subst (λ y. FiltersType s y.at levels false mask y.leaf w₁ y.written w₂ r) copy.behind type
+module _ {s : Bytes} {from : Reach} {inner : ℕ} (levels : ℕ) (mask : Bytes) {o o₁ : Output} {start : Reach} {o₂ : Output} {r : Option Reach}
+    (copy : CopiesTo s from inner o o₁ start) (type : FiltersType s levels false mask start o₁ o₂ r) where
+  -- what is left of the type, where it stands behind the bytes a
+  type_filtered : (l : ℕ) (t : DataType l) (a : Bytes) → l ≤ levels → LaidOut l t → inner ≡ from.at + length a → Stands s from.at (a ++ type_bytes l t)
+      → TypeSifted s mask l false t (record { at = inner; leaf = from.leaf }) o₁ o₂ r
+  type_filtered l t a h z i st =
+      subst (λ y. FiltersType s levels false mask y o₁ o₂ r) copy.behind type l t h z (subst (λ n. Stands s n (type_bytes l t)) (sym i) (second_stands a (type_bytes l t) st))
 
-  pub inner_leaf : {o : Option Reach} → r ≡ None → o ≡ None → FiltersInner s from.at inner levels mask from.leaf w from.written w₂ o
-  inner_leaf {o} e u l t a h z i st = go (type_filtered l t h z (subst (λ n. Stands s n (type_bytes l t)) (sym i) (second_stands a (type_bytes l t) st)))
+  pub inner_leaf : {to : Option Reach} → r ≡ None → to ≡ None → FiltersInner s inner levels mask from o o₂ to
+  inner_leaf {to} e u l t a h z i st = go (type_filtered l t a h z i st)
     where
-      go : TypeSifted s mask l false t inner from.leaf w₁ start.written w₂ r
-          → InnerSifted s mask l a t from.at from.leaf w from.written w₂ o
-      go (alone x y v d) = alone x y u (filters_undone a (type_bytes l t) st (filters_copied a (record { behind = λ u. i }) copy.puts) d)
+      go : TypeSifted s mask l false t (record { at = inner; leaf = from.leaf }) o₁ o₂ r → InnerSifted s mask l a t from o o₂ to
+      go (alone x y v d) = alone x y u (filters_undone a (type_bytes l t) o₂ st (filters_copied a (record { behind = λ u. i }) copy.puts) d)
       go (below ts rest n to x y v d) = let z : ◌≡◌ {A = ℕ} 0 1 = cc in absurd (omega (arith, z))
 
-  pub inner_nested : {reach o : Reach} → r ≡ Some reach → o ≡ unless_nothing from.written start.written reach → FiltersInner s from.at inner levels mask from.leaf w from.written w₂ (Some o)
-  inner_nested {reach} {o} e u l t a h z i st = go (type_filtered l t h z (subst (λ n. Stands s n (type_bytes l t)) (sym i) (second_stands a (type_bytes l t) st)))
+  pub inner_nested : {reach : Reach} {o₃ : Output} → r ≡ Some reach → o₃ ≡ taken_back o.written o₁.written o₂ → FiltersInner s inner levels mask from o o₃ (Some reach)
+  inner_nested {reach} {o₃} e u l t a h z i st = go (type_filtered l t a h z i st)
     where
-      go : TypeSifted s mask l false t inner from.leaf w₁ start.written w₂ r
-          → InnerSifted s mask l a t from.at from.leaf w from.written w₂ (Some o)
+      go : TypeSifted s mask l false t (record { at = inner; leaf = from.leaf }) o₁ o₂ r → InnerSifted s mask l a t from o o₃ (Some reach)
       go (alone x y v d) = let z : ◌≡◌ {A = ℕ} 0 1 = cc in absurd (omega (arith, z))
       go (below ts rest n to x y v d) =
-          let same : to ≡ reach = cc in
-          below ts rest n (unless_nothing from.written start.written to) x y (ap Some (u ∙ sym (ap (unless_nothing from.written start.written) same)))
-          (filters_as refl refl (inner_kept l a ts) (filters_fronted (filters_copied a (record { behind = λ u. i }) copy.puts) d))
+          below ts rest n to x y (sym e ∙ v) (filters_as refl refl (inner_kept l a ts) (filters_fronted (filters_copied a (record { behind = λ u. i }) copy.puts) d u))
 
 -- A Dictionary or RunEndEncoded that is looked through
 
-module _ (l : ℕ) (t : DataType (suc l)) (f g : Field l) (a b : Bytes) {s : Bytes} {place next : ℕ} {w : Bytes} {p : ℕ} {w' : Bytes} {r : Option Reach}
+module _ (l : ℕ) (t : DataType (suc l)) (f g : Field l) (a b : Bytes) {s : Bytes} {from : Reach} {o o' : Output} {r : Option Reach}
     (whole : a ++ type_bytes l g.data_type ≡ b) (again : (d : DataType l) → a ++ type_bytes l d ≡ type_bytes (suc l) (with_children t (f ∷ with_data_type g d ∷ []))) where
   -- the bytes a before the second child's type are all else of it
-  second_sifted : {model : Filtered (DataType l)} {count : Leaves ℕ} → Sifts s (a ++ type_bytes l g.data_type) (λ d. a ++ type_bytes l d) model count place next w p w' r
-      → Sifts s b (type_bytes (suc l)) (around t f g model) count place next w p w' r
+  second_sifted : {model : Filtered (DataType l)} {count : Leaves ℕ} → Sifts s (a ++ type_bytes l g.data_type) (λ d. a ++ type_bytes l d) model count from o o' r
+      → Sifts s b (type_bytes (suc l)) (around t f g model) count from o o' r
   unfolding around
   second_sifted (alone x y v d) = alone (ap (around t f g) x) y v d
   second_sifted (below [] rest n to x y v d) = below [] rest n to (ap (around t f g) x) y v (filters_as whole refl refl d)
@@ -170,8 +165,8 @@ module _ (l : ℕ) (t : DataType (suc l)) (mask : Bytes) where
     choose_false _ _ _ h ∙ choose_true _ _ _ e ∙ ap (leaves_of_second (λ x. type_leaf_count l false x)) k,
   )
 
-sifts_as : {s b : Bytes} {T : Type 0} {f : T → Bytes} {m m' : Filtered T} {c c' : Leaves ℕ} {place next : ℕ} {w : Bytes} {p : ℕ} {w' : Bytes} {r : Option Reach} → m ≡ m' → c ≡ c'
-    → Sifts s b f m' c' place next w p w' r → Sifts s b f m c place next w p w' r
+sifts_as : {s b : Bytes} {T : Type 0} {f : T → Bytes} {m m' : Filtered T} {c c' : Leaves ℕ} {from : Reach} {o o' : Output} {r : Option Reach} → m ≡ m' → c ≡ c'
+    → Sifts s b f m' c' from o o' r → Sifts s b f m c from o o' r
 sifts_as d e (alone x y v k) = alone (d ∙ x) (e ∙ y) v k
 sifts_as d e (below ts rest n to x y v k) = below ts rest n to (d ∙ x) (e ∙ y) v k
 
@@ -181,13 +176,13 @@ bare_bytes : (l : ℕ) (t : DataType (suc l)) (c : ℕ) → t.code ≡ c → t.p
 unfolding type_bytes
 bare_bytes l t c e p ks k = rw (e, p, k)
 
-module _ {s : Bytes} {place : ℕ} (code levels : ℕ) (mask : Bytes) {next : ℕ} {w : Bytes} {p : ℕ} {w' : Bytes} {r : Option Reach} where
+module _ {s : Bytes} (code levels : ℕ) (mask : Bytes) {from : Reach} {o o' : Output} {r : Option Reach} where
   -- of a code without parameters, where the bytes of a type are those before the second child's type and that
   encoded : (c : ℕ) {inner : ℕ} → code ≡ c → encodes c ≡ true → ((b : Bytes) → WellFormedParams (layout c).params b → b ≡ [])
       → (front : (l : ℕ) (x v : Field l) → Bytes)
       → ((l : ℕ) (x v : Field l) (d : DataType l) → front l x v ++ type_bytes l d ≡ c ∷ children_bytes (type_bytes l) (layout c).children (x ∷ with_data_type v d ∷ []))
-      → ((l : ℕ) (x v : Field l) → l ≤ levels → LaidOut l x.data_type → Skips s place (front l x v) inner)
-      → FiltersInner s place inner levels mask next w p w' r → FiltersEncoded s place code levels mask next w p w' r
+      → ((l : ℕ) (x v : Field l) → l ≤ levels → LaidOut l x.data_type → Skips s from.at (front l x v) inner)
+      → FiltersInner s inner levels mask from o o' r → FiltersEncoded s code levels mask from o o' r
   encoded c e i bare front join skip g l t h d n z st =
       go t.children refl (encoded_two t.code (ap encodes (sym d ∙ e) ∙ i) t.children z.1) z.2
     where
@@ -198,29 +193,29 @@ module _ {s : Bytes} {place : ℕ} (code levels : ℕ) (mask : Bytes) {next : �
       none = bare t.params (subst (λ c. WellFormedParams (layout c).params t.params) is z.0)
 
       go : (ks : List (Field l)) → t.children ≡ ks → length ks ≡ 2 → AllLaidOut l ks
-          → TypeSifted s mask (suc l) true t place next w p w' r
+          → TypeSifted s mask (suc l) true t from o o' r
       go [] k m y = absurd (omega (arith, m))
       go (x ∷ []) k m y = absurd (omega (arith, m))
       go (x ∷ v ∷ []) k m y =
           let whole : front l x v ++ type_bytes l v.data_type ≡ type_bytes (suc l) t = join l x v v.data_type ∙ sym (bare_bytes l t c is none (x ∷ v ∷ []) k) in
-          let st' = subst (Stands s place) (sym whole) st in
-          let q = looked l t (drop next mask) (sym (ap holds_fields d) ∙ n) (ap encodes is ∙ i) x v k in
+          let st' = subst (Stands s from.at) (sym whole) st in
+          let q = looked l t (drop from.leaf mask) (sym (ap holds_fields d) ∙ n) (ap encodes is ∙ i) x v k in
           sifts_as q.0 q.1
           (second_sifted l t x v (front l x v) (type_bytes (suc l) t) whole
           (λ b. join l x v b ∙ sym (bare_bytes l (with_children t (x ∷ with_data_type v b ∷ [])) c is none (x ∷ with_data_type v b ∷ []) refl))
           (g l v.data_type (front l x v) h y.1.0 ((skip l x v h y.0).behind (first_stands (front l x v) (type_bytes l v.data_type) st')) st'))
       go (x ∷ v ∷ u ∷ ks) k m y = absurd (omega (arith, m))
 
-  pub dictionary_filtered : {first value : ℕ} → code ≡ Dictionary → Ahead s place 1 first → SkipsType s first levels value → FiltersInner s place value levels mask next w p w' r
-      → FiltersEncoded s place code levels mask next w p w' r
+  pub dictionary_filtered : {first value : ℕ} → code ≡ Dictionary → Ahead s from.at 1 first → SkipsType s first levels value → FiltersInner s value levels mask from o o' r
+      → FiltersEncoded s code levels mask from o o' r
   unfolding layout table children_bytes encodes
   dictionary_filtered e a f g =
       encoded Dictionary e refl (λ b q. q) (λ l x v. Dictionary ∷ type_bytes l x.data_type)
       (λ l x v d. ap (λ b. Dictionary ∷ (type_bytes l x.data_type ++ b)) (sym (append-nil (type_bytes l d))))
       (λ l x v h z. skip_join (skip_ahead (Dictionary ∷ []) refl a.1) (f l x.data_type h z)) g
 
-  pub runs_filtered : {first values body : ℕ} → code ≡ RunEndEncoded → Ahead s place 1 first → SkipsField s first levels values → ((h : Head) → Skips s values (head_bytes h) body)
-      → FiltersInner s place body levels mask next w p w' r → FiltersEncoded s place code levels mask next w p w' r
+  pub runs_filtered : {first values body : ℕ} → code ≡ RunEndEncoded → Ahead s from.at 1 first → SkipsField s first levels values → ((h : Head) → Skips s values (head_bytes h) body)
+      → FiltersInner s body levels mask from o o' r → FiltersEncoded s code levels mask from o o' r
   unfolding layout table children_bytes encodes field_bytes
   runs_filtered e a f k g =
       encoded RunEndEncoded e refl (λ b q. q) (λ l x v. RunEndEncoded ∷ (field_bytes (type_bytes l) x ++ head_bytes v.head))
@@ -238,45 +233,45 @@ unfolding choose
 held_kept l t [] = refl
 held_kept l t (k ∷ ks) = rw (ne_eqb (length (k ∷ ks)) 0 λ e. absurd (omega (arith, e)))
 
-module _ {s : Bytes} {place : ℕ} (code levels : ℕ) (mask : Bytes) {next : ℕ} {w : Bytes} {p : ℕ} where
+module _ {s : Bytes} (code levels : ℕ) (mask : Bytes) {from : Reach} {o : Output} where
   -- all others are leaves
-  pub others_encoded : (code ≡ Dictionary → ⊥) → (code ≡ RunEndEncoded → ⊥) → FiltersEncoded s place code levels mask next w p w None
+  pub others_encoded : (code ≡ Dictionary → ⊥) → (code ≡ RunEndEncoded → ⊥) → FiltersEncoded s code levels mask from o o None
   unfolding encodes
   others_encoded a b l t h d n z st =
       let e : encodes t.code ≡ false = ap encodes (sym d) ∙ ap (λ y. y || eqb code RunEndEncoded) (ne_eqb code Dictionary a) ∙ ne_eqb code RunEndEncoded b in
-      let q = plain l t (drop next mask) (sym (ap holds_fields d) ∙ n) true e in
+      let q = plain l t (drop from.leaf mask) (sym (ap holds_fields d) ∙ n) true e in
       alone q.0 q.1 refl filters_none
 
-module _ {s : Bytes} {place : ℕ} (levels : ℕ) (through : Bool) (mask : Bytes) {next : ℕ} {w : Bytes} {p : ℕ} where
+module _ {s : Bytes} (levels : ℕ) (through : Bool) (mask : Bytes) {from : Reach} {o : Output} where
   -- no type is of no level
-  pub no_level : levels ≤ 0 → FiltersType s place levels through mask next w p w None
+  pub no_level : levels ≤ 0 → FiltersType s levels through mask from o o None
   no_level h zero t k z st = absurd z
   no_level h (suc l) t k z st = absurd (omega (arith, h, k))
 
-  module _ {code : ℕ} {test : Bool} (e : code ≡ get_or s place 0) (i : test ≡ holds_fields code) where
-    pub type_held : {w' : Bytes} {reach : Reach} → test ≡ true → FiltersNested s place code (levels - 1) mask next w p w' reach
-        → FiltersType s place levels through mask next w p w' (Some reach)
+  module _ {code : ℕ} {test : Bool} (e : code ≡ get_or s from.at 0) (i : test ≡ holds_fields code) where
+    pub type_held : {o' : Output} {reach : Reach} → test ≡ true → FiltersNested s code (levels - 1) mask from o o' reach
+        → FiltersType s levels through mask from o o' (Some reach)
     type_held h g zero t k z st = absurd z
-    type_held {w'} {reach} h g (suc l) t k z st =
+    type_held {o'} {reach} h g (suc l) t k z st =
         let c : code ≡ t.code = e ∙ code_stands l t st in
         let d : holds_fields code ≡ true = sym i ∙ h in
-        let left = filter_each (filter_field (λ x m. filter_type l true x m)) t.children (drop next mask) in
-        let q = held_type l t (drop next mask) through (sym (ap holds_fields c) ∙ d) in
+        let left = filter_each (filter_field (λ x m. filter_type l true x m)) t.children (drop from.leaf mask) in
+        let q = held_type l t (drop from.leaf mask) through (sym (ap holds_fields c) ∙ d) in
         below (choose (eqb (length left.kept) 0) (λ u. []) λ u. with_children t left.kept ∷ []) left.mask (leaves_of_all l t.children) reach q.0 q.1 refl
         (filters_as refl refl (held_kept l t left.kept) (g l t (omega arith) c d z))
 
     -- one was looked through before, and this type holds no fields
-    pub type_leaf : test ≡ false → through ≡ false → FiltersType s place levels through mask next w p w None
+    pub type_leaf : test ≡ false → through ≡ false → FiltersType s levels through mask from o o None
     type_leaf h j zero t k z st = absurd z
     type_leaf h j (suc l) t k z st =
         let c : code ≡ t.code = e ∙ code_stands l t st in
-        let q = plain l t (drop next mask) (sym (ap holds_fields c) ∙ sym i ∙ h) through (ap (λ b. b && encodes t.code) j) in
+        let q = plain l t (drop from.leaf mask) (sym (ap holds_fields c) ∙ sym i ∙ h) through (ap (λ b. b && encodes t.code) j) in
         alone q.0 q.1 refl filters_none
 
-    pub type_encoded : {w' : Bytes} {r : Option Reach} → test ≡ false → through ≡ true → FiltersEncoded s place code (levels - 1) mask next w p w' r
-        → FiltersType s place levels through mask next w p w' r
+    pub type_encoded : {o' : Output} {r : Option Reach} → test ≡ false → through ≡ true → FiltersEncoded s code (levels - 1) mask from o o' r
+        → FiltersType s levels through mask from o o' r
     type_encoded h j g zero t k z st = absurd z
-    type_encoded {w'} {r} h j g (suc l) t k z st =
+    type_encoded {o'} {r} h j g (suc l) t k z st =
         let c : code ≡ t.code = e ∙ code_stands l t st in
-        subst (λ b. TypeSifted s mask (suc l) b t place next w p w' r) (sym j)
+        subst (λ b. TypeSifted s mask (suc l) b t from o o' r) (sym j)
         (g l t (omega arith) c (sym i ∙ h) z st)

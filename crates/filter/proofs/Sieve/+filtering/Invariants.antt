@@ -35,4 +35,7 @@ abbrev pub decreases-filter_type : goal.decreases-filter_type
 decreases-filter_type l = 8 * l.levels + 0
 
 abbrev pub invariant-filter_row-loop : goal.invariant-filter_row-loop
-invariant-filter_row-loop v = (length v.w ≡ length v.initial.w) × (v.kept ≤ v.counter) × ((l : ℕ) (front : Head → Bytes) → ((h : Head) → length (front h) ≡ v.before) → l ≤ v.levels → Turns l front v.self.sheet.now v.self.mask.now v.fn.from.at v.count v.fn.from.leaf v.initial.w v.fn.from.written v.reach.at (v.count - v.counter) v.reach.leaf v.w v.reach.written v.kept)
+invariant-filter_row-loop v =
+    (v.row.kept ≤ v.counter)
+    × ((l : ℕ) (front : Head → Bytes) → ((h : Head) → length (front h) ≡ v.before) → l ≤ v.levels
+    → Turns l front v.self.sheet.now v.self.mask.now v.count (record { reach = v.fn.from; kept = 0 }) v.initial.out (v.count - v.counter) v.row v.out)

@@ -4,10 +4,7 @@ use Rattle.filter.proofs.Sieve.filter_sheet.Goals as goal
 
 pub returns-then-bit : goal.returns-then-bit
 returns-then-bit c =
-    let metadata = c.skip_if-place.ensures in
-    sheet_columns c.byte-map.ensures.0 c.ahead-metadata.ensures c.bit.ensures metadata.set metadata.unset c.put_part-start.ensures c.bit-2.ensures c.if-bit.true c.filter_columns.ensures
+    sheet_columns c.skip_sheet_head-columns.ensures c.copy_to-start.ensures c.byte.ensures.0 c.bit.ensures c.if-bit.true c.filter_columns.ensures
 
 pub returns : goal.returns
-returns c =
-    let metadata = c.skip_if-place.ensures in
-    sheet_bare c.byte-map.ensures.0 c.ahead-metadata.ensures c.bit.ensures metadata.set metadata.unset c.put_part-start.ensures c.bit-2.ensures c.if-bit.false
+returns c = sheet_bare c.skip_sheet_head-columns.ensures c.copy_to-start.ensures c.byte.ensures.0 c.bit.ensures c.if-bit.false
