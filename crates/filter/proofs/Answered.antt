@@ -8,14 +8,14 @@ use lib.Seq.{take_at}
 use lib.Dec.{ltb}
 use borrow.Author.Tests.{eq-eqb, ne_eqb}
 use Rattle.model.specs.Numbers.{work_bytes_per_sheet_byte, mask_length}
-use Rattle.model.specs.Bytes.{Bytes}
+use Rattle.model.specs.Bytes.{Bytes, AreBytes}
 use Rattle.model.specs.Tree.{Schema}
 use Rattle.model.specs.Sheet.{sheet_bytes}
 use Rattle.model.specs.Read.{read_sheet, judged, unless}
 use Rattle.model.specs.Filter.{leaf_count, filter_leaves}
 use Rattle.model.specs.Call.{Answer, bytes, refused, and_then, sheet_answer, filter_answer, filter_call, zeros, acceptance}
 use Rattle.sheet.specs.Answers.{step_of}
-use Rattle.sheet.proofs.Reading.{Whole, sheet_refused}
+use Rattle.sheet.proofs.Reading.{Whole, sheet_refused, sheet_whole}
 use Rattle.std.specs.Prelude.{Result, Ok, Err}
 use Rattle.buffer.specs.declared.refusal.Number.{Number}
 use Rattle.buffer.specs.declared.refusal.Refusal.{Refusal}
@@ -46,9 +46,12 @@ pub filter_refused : (s mask : Bytes) {read : Result ℕ Refusal} {x : Refusal} 
 unfolding filter_answer
 filter_refused s mask e h = sheet_refused s (answered mask) e h
 
-module _ {s : Bytes} (mask : Bytes) (a : Whole s (answered mask)) {room : Result Unit Refusal} {w : Bytes} {o o' : Output} {r : Reach} {w' : Bytes}
-    (tested : room ≡ unless_short (ltb (length w) (work_bytes_per_sheet_byte * length s))) (h : room ≡ Ok tt) (e : o.buffer.now ≡ w) (z : o.written ≡ 0) (g : FiltersSheet s mask o o' r)
+module _ {s : Bytes} (mask : Bytes) {read : Result ℕ Refusal} {end : ℕ} {room : Result Unit Refusal} {w : Bytes} {o o' : Output} {r : Reach} {w' : Bytes}
+    (i : numbered read ≡ step_of (read_sheet s)) (b : AreBytes s) (is : read ≡ Ok end) (tested : room ≡ unless_short (ltb (length w) (work_bytes_per_sheet_byte * length s))) (h : room ≡ Ok tt) (e : o.buffer.now ≡ w) (z : o.written ≡ 0) (g : FiltersSheet s mask o o' r)
     (back : o'.buffer.ghost_name ≡ o.buffer.ghost_name → w' ≡ o'.buffer.now) where
+  a : Whole s (answered mask)
+  a = sheet_whole s (answered mask) i b is
+
   outcome : filter_answer s mask ≡ answered mask a.schema
   unfolding filter_answer
   outcome = a.outcome

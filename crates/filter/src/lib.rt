@@ -29,6 +29,7 @@ struct Row {
 
 // What stands before a part was put behind so many bytes, up to a position. Where nothing was put behind that, it is taken back: "A nested
 // type with no leaf left vanishes."
+#[tactic(auto, unfolding(model::specs::Bytes::choose))]
 fn take_back(out: &mut Output<'_>, put: usize, front: usize)
     ensures { out.new ≡ taken_back put front out.old }
 {

@@ -55,9 +55,6 @@ filter_nested-returns t c = nested_filtered _ _ _ c.ahead-params.ensures c.skip_
 pub filter_row-loop-init : goal.filter_row-loop-init
 filter_row-loop-init t c = (omega arith, λ l front e h. rw sub-zero (turns_begin _ _ _ _))
 
-pub filter_row-overflow_add-row : goal.filter_row-overflow_add-row
-filter_row-overflow_add-row t c = omega (arith, c.loop.invariant.0, c.loop-test.true, (kept_more _ c.from.ensures).1)
-
 pub filter_row-loop-preserved : goal.filter_row-loop-preserved
 filter_row-loop-preserved t c =
     let more = kept_more _ c.from.ensures in
@@ -65,9 +62,6 @@ filter_row-loop-preserved t c =
 
 pub filter_row-returns : goal.filter_row-returns
 filter_row-returns t c = λ l front ks e h n z. turns_done _ _ _ _ (c.loop.invariant.1 l front e h) (omega (arith, c.loop-test.false)) ks n z
-
-pub filter_type-returns-then-levels-eq0 : goal.filter_type-returns-then-levels-eq0
-filter_type-returns-then-levels-eq0 t c = no_level _ _ _ (omega (arith, c.if-levels-eq0.true))
 
 pub filter_type-returns-then-holds_fields : goal.filter_type-returns-then-holds_fields
 filter_type-returns-then-holds_fields t c = type_held _ _ _ c.byte-code.ensures.0 c.holds_fields.ensures c.if-holds_fields.true c.filter_nested.ensures
