@@ -1,7 +1,7 @@
 -- `filter` as a call: from an accepted sheet to what stands in the buffers at the end.
 use Prim.Native.Nat.{ℕ, ◌*◌, ◌≤◌}
 use native.Mathlib.Omega.{arith}
-use mathlib.Core.Path.{◌≡◌, sym, ap, ◌∙◌}
+use mathlib.Core.Path.{◌≡◌, refl, sym, ap, ◌∙◌}
 use mathlib.Core.List.{◌++◌}
 use lib.ListN.{length, take, length-append}
 use lib.Seq.{take_at}
@@ -25,8 +25,7 @@ use Rattle.buffer.specs.Refusals.{number_of, numbered, without_place}
 use Rattle.buffer.proofs.Room.{room_enough}
 use Rattle.buffer.proofs.Ends.{call_refused, call_written}
 use Rattle.buffer.specs.declared.Output.{Output}
-use Rattle.filter.specs.declared.Reach.{Reach}
-use Rattle.filter.specs.Filters.{Begins, Kept, FiltersSheet, filtered}
+use Rattle.filter.specs.Filters.{Walk, Begins, Kept, FiltersSheet, filtered, start}
 
 abbrev pub answered : Bytes → Schema → Answer
 answered mask x = sheet_answer (filter_leaves x mask)
@@ -46,9 +45,9 @@ pub filter_refused : (s mask : Bytes) {read : Result ℕ Refusal} {x : Refusal} 
 unfolding filter_answer
 filter_refused s mask e h = sheet_refused s (answered mask) e h
 
-module _ {s : Bytes} (mask : Bytes) {read : Result ℕ Refusal} {end : ℕ} {room : Result Unit Refusal} {w : Bytes} {o o' : Output} {r : Reach} {w' : Bytes}
-    (i : numbered read ≡ step_of (read_sheet s)) (b : AreBytes s) (is : read ≡ Ok end) (tested : room ≡ unless_short (ltb (length w) (work_bytes_per_sheet_byte * length s))) (h : room ≡ Ok tt) (e : o.buffer.now ≡ w) (z : o.written ≡ 0) (g : FiltersSheet s mask o o' r)
-    (back : o'.buffer.ghost_name ≡ o.buffer.ghost_name → w' ≡ o'.buffer.now) where
+module _ {s : Bytes} (mask : Bytes) {read : Result ℕ Refusal} {end : ℕ} {room : Result Unit Refusal} {w : Bytes} {o : Output} {v : Walk} {w' : Bytes}
+    (i : numbered read ≡ step_of (read_sheet s)) (b : AreBytes s) (is : read ≡ Ok end) (tested : room ≡ unless_short (ltb (length w) (work_bytes_per_sheet_byte * length s))) (h : room ≡ Ok tt) (e : o.buffer.now ≡ w) (z : o.written ≡ 0) (g : FiltersSheet s mask (start o) v)
+    (back : v.out.buffer.ghost_name ≡ o.buffer.ghost_name → w' ≡ v.out.buffer.now) where
   a : Whole s (answered mask)
   a = sheet_whole s (answered mask) i b is
 
@@ -56,26 +55,26 @@ module _ {s : Bytes} (mask : Bytes) {read : Result ℕ Refusal} {end : ℕ} {roo
   unfolding filter_answer
   outcome = a.outcome
 
-  kept : Kept (leaf_count a.schema) (sheet_bytes (filtered a.schema mask)) o o' r
-  kept = g.does a.schema a.fits.well_formed a.bytes (omega (arith, a.fits.size, ap length a.bytes)) (omega (arith, room_enough (length w) (length s) tested h, ap length e)) z
+  kept : Kept (leaf_count a.schema) (sheet_bytes (filtered a.schema mask)) (start o) v
+  kept = g.does a.schema a.fits.well_formed a.bytes (omega (arith, a.fits.size, ap length a.bytes)) (omega (arith, room_enough (length w) (length s) tested h, ap length e)) refl z
 
   -- the work buffer afterwards
   work_begins : w' ≡ sheet_bytes (filtered a.schema mask) ++ kept.begins.rest
   work_begins = back kept.same_buffer ∙ kept.begins.bytes
 
-  pub end_inside : o'.written ≤ length w'
+  pub end_inside : v.out.written ≤ length w'
   end_inside = omega (arith, kept.begins.end, ap length work_begins, length-append (sheet_bytes (filtered a.schema mask)) kept.begins.rest)
 
-  pub call_mask : {q : Result ℕ Refusal} {work : Bytes} (answer : Bytes) → (r.leaf ≡ length mask → ⊥) → q ≡ Err (without_place Number.MaskLength) → length w' ≡ length w
+  pub call_mask : {q : Result ℕ Refusal} {work : Bytes} (answer : Bytes) → (v.leaf ≡ length mask → ⊥) → q ≡ Err (without_place Number.MaskLength) → length w' ≡ length w
       → work ≡ zeros (length w') → leaves q answer work ≡ filter_call s mask w answer
   call_mask answer d e len z =
       call_refused (length s) (filter_answer s mask) w answer tested h (outcome ∙ mask_differs a.schema mask λ i. d (kept.leaves ∙ i)) e (z ∙ ap zeros len)
 
-  pub call_filtered : (q : Result ℕ Refusal) {work : Bytes} (answer answer' : Bytes) → r.leaf ≡ length mask
-      → ((z : Bytes) → leaves q answer' z ≡ acceptance (take o'.written w') z answer) → length w' ≡ length w → work ≡ zeros (length w')
+  pub call_filtered : (q : Result ℕ Refusal) {work : Bytes} (answer answer' : Bytes) → v.leaf ≡ length mask
+      → ((z : Bytes) → leaves q answer' z ≡ acceptance (take v.out.written w') z answer) → length w' ≡ length w → work ≡ zeros (length w')
       → leaves q answer' work ≡ filter_call s mask w answer
   call_filtered q {work} answer answer' d f len z =
-      let same : take o'.written w' ≡ sheet_bytes (filtered a.schema mask) =
-      ap (take o'.written) work_begins ∙ take_at (sheet_bytes (filtered a.schema mask)) kept.begins.rest o'.written (sym kept.begins.end) in
+      let same : take v.out.written w' ≡ sheet_bytes (filtered a.schema mask) =
+      ap (take v.out.written) work_begins ∙ take_at (sheet_bytes (filtered a.schema mask)) kept.begins.rest v.out.written (sym kept.begins.end) in
       call_written (length s) (filter_answer s mask) w answer tested q answer' work h (outcome ∙ mask_fits a.schema mask (sym kept.leaves ∙ d))
       (λ z. f z ∙ ap (λ b. acceptance b z answer) same) (z ∙ ap zeros len)

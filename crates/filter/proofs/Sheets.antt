@@ -17,44 +17,43 @@ use Rattle.walk.proofs.Standing.{whole_stands, first_stands, byte_stands, stands
 use Rattle.walk.proofs.Schemas.{columns_bit}
 use Rattle.buffer.specs.declared.Output.{Output}
 use Rattle.buffer.specs.Puts.{Puts}
-use Rattle.filter.specs.declared.Reach.{Reach}
-use Rattle.filter.specs.Filters.{Begins, Fair, Passed, CopiesTo, back_to, FiltersCounted, Kept, ColumnsKept, FiltersColumns, FiltersSheet, leaves_of_all, filtered}
+use Rattle.filter.specs.Filters.{Walk, Begins, Fair, Passed, CopiesTo, back_to, FiltersCounted, Kept, ColumnsKept, FiltersColumns, FiltersSheet, leaves_of_all, filtered, start}
 use Rattle.filter.proofs.Walking.{begins_over, filters_copied}
 
 -- The columns
 
 -- the walk behind the map and the bytes m, of which these columns are left
-abbrev Behind : (s : Bytes) (cs kept : List (Field max_levels)) (m : Bytes) (from : Reach) (o o' : Output) (r : Reach) → Type 0
-Behind s cs kept m from o o' r = Passed s (with_count column_bytes cs) (leaves_of_all max_levels cs) (part (with_count column_bytes) kept) from o (get_or s 0 0 ∷ m) o' r
+abbrev Behind : (s : Bytes) (cs kept : List (Field max_levels)) (m : Bytes) (v v' : Walk) → Type 0
+Behind s cs kept m v v' = Passed s (with_count column_bytes cs) (leaves_of_all max_levels cs) (part (with_count column_bytes) kept) v (get_or s 0 0 ∷ m) v'
 
-module _ {s : Bytes} (mask : Bytes) {from : Reach} {o o₁ : Output} {reach : Reach} (f : FiltersCounted s 0 max_levels mask from o o₁ reach) where
-  columns_passed : (cs : List (Field max_levels)) (m : Bytes) → AllLaidOut max_levels cs → Stands s from.at (with_count column_bytes cs) → Fair s from o
-      → Begins o (get_or s 0 0 ∷ m) → Behind s cs (filter_columns cs (drop from.leaf mask)).kept m from o o₁ reach
+module _ {s : Bytes} (mask : Bytes) {v v₁ : Walk} (f : FiltersCounted s mask 0 max_levels v v₁) where
+  columns_passed : (cs : List (Field max_levels)) (m : Bytes) → AllLaidOut max_levels cs → Stands s v.at (with_count column_bytes cs) → Fair s v
+      → Begins v.out (get_or s 0 0 ∷ m) → Behind s cs (filter_columns cs (drop v.leaf mask)).kept m v v₁
   unfolding filter_columns
   columns_passed cs m z st h g = (f max_levels (λ h. []) cs (λ h. refl) (omega arith) z).does (get_or s 0 0 ∷ m) st h g
 
   -- as much was put as before: none is left, and the map loses its bit
-  pub columns_gone : {byte : ℕ} {o₂ : Output} → o₁.written ≡ o.written → byte ≡ get_or s 0 0 → Puts (byte % 2 ∷ []) (back_to 0 o₁) o₂ → FiltersColumns s mask from o (back_to o.written o₂) reach
+  pub columns_gone : {byte : ℕ} {o : Output} → v₁.out.written ≡ v.out.written → byte ≡ get_or s 0 0 → Puts (byte % 2 ∷ []) (back_to 0 v₁.out) o
+      → FiltersColumns s mask v (record { at = v₁.at; leaf = v₁.leaf; out = back_to v.out.written o })
   unfolding choose
-  columns_gone {byte} {o₂} e i put = record { does = λ cs m z st h g. go cs m (filter_columns cs (drop from.leaf mask)).kept g (columns_passed cs m z st h g) }
+  columns_gone {byte} {o} e i put = record { does = λ cs m z st h g. go cs m (filter_columns cs (drop v.leaf mask)).kept g (columns_passed cs m z st h g) }
     where
-      go : (cs : List (Field max_levels)) (m : Bytes) (kept : List (Field max_levels)) → Begins o (get_or s 0 0 ∷ m) → Behind s cs kept m from o o₁ reach
-          → ColumnsKept s cs kept m from o (back_to o.written o₂) reach
+      go : (cs : List (Field max_levels)) (m : Bytes) (kept : List (Field max_levels)) → Begins v.out (get_or s 0 0 ∷ m) → Behind s cs kept m v v₁
+          → ColumnsKept s cs kept m v (record { at = v₁.at; leaf = v₁.leaf; out = back_to v.out.written o })
       go cs m [] g d = record {
         leaves = d.leaves;
         same_buffer = put.same_buffer ∙ d.same_buffer;
-        begins = subst (λ p. Begins (back_to p o₂) (get_or s 0 0 % 2 ∷ (m ++ []))) e
-            (begins_over [] (get_or s 0 0 ∷ []) (get_or s 0 0 % 2 ∷ []) (m ++ []) d.begins refl refl (subst (λ b. Puts (b % 2 ∷ []) (back_to 0 o₁) o₂) i put) (omega arith));
+        begins = subst (λ p. Begins (back_to p o) (get_or s 0 0 % 2 ∷ (m ++ []))) e
+            (begins_over [] (get_or s 0 0 ∷ []) (get_or s 0 0 % 2 ∷ []) (m ++ []) d.begins refl refl (subst (λ b. Puts (b % 2 ∷ []) (back_to 0 v₁.out) o) i put) (omega arith));
       }
       go cs m (k ∷ ks) g d =
           absurd (omega (arith, e, g.end, d.begins.end, length-append (get_or s 0 0 ∷ m) (with_count column_bytes (k ∷ ks)), length_with_count column_bytes (k ∷ ks)))
 
-  pub columns_left : (o₁.written ≡ o.written → ⊥) → FiltersColumns s mask from o o₁ reach
+  pub columns_left : (v₁.out.written ≡ v.out.written → ⊥) → FiltersColumns s mask v v₁
   unfolding choose
-  columns_left e = record { does = λ cs m z st h g. go cs m (filter_columns cs (drop from.leaf mask)).kept g (columns_passed cs m z st h g) }
+  columns_left e = record { does = λ cs m z st h g. go cs m (filter_columns cs (drop v.leaf mask)).kept g (columns_passed cs m z st h g) }
     where
-      go : (cs : List (Field max_levels)) (m : Bytes) (kept : List (Field max_levels)) → Begins o (get_or s 0 0 ∷ m) → Behind s cs kept m from o o₁ reach
-          → ColumnsKept s cs kept m from o o₁ reach
+      go : (cs : List (Field max_levels)) (m : Bytes) (kept : List (Field max_levels)) → Begins v.out (get_or s 0 0 ∷ m) → Behind s cs kept m v v₁ → ColumnsKept s cs kept m v v₁
       go cs m [] g d = absurd (e (omega (arith, g.end, d.begins.end, length-append (get_or s 0 0 ∷ m) [])))
       go cs m (k ∷ ks) g d = record { leaves = d.leaves; same_buffer = d.same_buffer; begins = d.begins }
 
@@ -68,53 +67,51 @@ map_left true false = refl
 map_left false true = refl
 map_left false false = refl
 
-module _ {s : Bytes} {place : ℕ} {o o₁ : Output} {start : Reach} (head : SkipsSheetHead s 0 place) (copy : CopiesTo s (record { at = 0; leaf = 0 }) place o o₁ start)
-    {map : ℕ} {t : Bool} (e : map ≡ get_or s 0 0) (b : t ≡ bit 1 map) where
-  -- the map and the metadata are copied
-  head_copied : (x : Schema) → s ≡ sheet_bytes x → length s ≤ max_sheet_bytes → length s ≤ length o.buffer.now → o.written ≡ 0
-      → Passed s (sheet_head x) 0 (sheet_head x) (record { at = 0; leaf = 0 }) o [] o₁ (record { at = place; leaf = 0 })
+-- the walk behind the map and the metadata, which are copied
+abbrev Headed : (s : Bytes) (place : ℕ) (o o' : Output) → Schema → Type 0
+Headed s place o o' x = Passed s (sheet_head x) 0 (sheet_head x) (start o) [] (record { at = place; leaf = 0; out = o' })
+
+module _ {s : Bytes} {place : ℕ} {v v₁ : Walk} (head : SkipsSheetHead s 0 place) (copy : CopiesTo s place v v₁) {map : ℕ} {t : Bool} (e : map ≡ get_or s 0 0) (b : t ≡ bit 1 map) where
+  head_copied : (x : Schema) → s ≡ sheet_bytes x → length s ≤ max_sheet_bytes → length s ≤ length v.out.buffer.now → v ≡ start v.out → v.out.written ≡ 0 → Headed s place v.out v₁.out x
   unfolding sheet_bytes
-  head_copied x i small room z =
+  head_copied x i small room is z =
       let st = whole_stands s (sheet_bytes x) i in
-      (filters_copied (sheet_head x) (head x st) copy.puts).does [] (first_stands (sheet_head x) (part (with_count column_bytes) x.columns) st)
-      (record { small = small; room = room; leaves = omega arith; written = omega (arith, z) }) (record { end = z; rest = o.buffer.now; bytes = refl })
+      (filters_copied (sheet_head x) (head x st) (subst (λ y. CopiesTo s place y v₁) is copy)).does [] (first_stands (sheet_head x) (part (with_count column_bytes) x.columns) st)
+      (record { small = small; room = room; leaves = omega arith; written = omega (arith, z) }) (record { end = z; rest = v.out.buffer.now; bytes = refl })
 
-  pub sheet_columns : {mask : Bytes} {o₂ : Output} {r : Reach} → t ≡ true → FiltersColumns s mask start o₁ o₂ r → FiltersSheet s mask o o₂ r
+  pub sheet_columns : {mask : Bytes} {v₂ : Walk} → t ≡ true → FiltersColumns s mask v₁ v₂ → FiltersSheet s mask v v₂
   unfolding sheet_bytes leaf_count
-  sheet_columns {mask} {o₂} {r} h g = record { does = λ x good i small room z. go x.metadata x.columns (columns_laid_out x good) i (head_copied x i small room z) }
+  sheet_columns {mask} {v₂} h g = record { does = λ x good i small room is z. go x.metadata x.columns (columns_laid_out x good) i is (head_copied x i small room is z) }
     where
-      columns : FiltersColumns s mask (record { at = place; leaf = 0 }) o₁ o₂ r
-      columns = subst (λ y. FiltersColumns s mask y o₁ o₂ r) copy.behind g
-
       go : (m : Metadata) (cs : List (Field max_levels)) → let x : Schema = record { metadata = m; columns = cs } in
-          AllLaidOut max_levels cs → s ≡ sheet_bytes x → Passed s (sheet_head x) 0 (sheet_head x) (record { at = 0; leaf = 0 }) o [] o₁ (record { at = place; leaf = 0 })
-          → Kept (leaf_count x) (sheet_bytes (filtered x mask)) o o₂ r
-      go m [] z i d = absurd (false≢true (sym (columns_bit e head b (record { metadata = m; columns = [] }) (whole_stands s _ i)) ∙ h))
-      go m (c ∷ cs) z i d =
+          AllLaidOut max_levels cs → s ≡ sheet_bytes x → v ≡ start v.out → Headed s place v.out v₁.out x → Kept (leaf_count x) (sheet_bytes (filtered x mask)) v v₂
+      go m [] z i is d = absurd (false≢true (sym (columns_bit e head b (record { metadata = m; columns = [] }) (whole_stands s _ i)) ∙ h))
+      go m (c ∷ cs) z i is d =
           let x : Schema = record { metadata = m; columns = c ∷ cs } in
           let st = whole_stands s (sheet_bytes x) i in
           let front = part (with_count pair_bytes) m in
           let byte : flag 1 (stands m) + flag 2 true ≡ get_or s 0 0 = sym (byte_stands st) in
           let kept = (filter_columns (c ∷ cs) mask).kept in
-          let k = columns.does (c ∷ cs) front z (stands_behind (head x st) st) d.fair (subst (λ n. Begins o₁ (n ∷ front)) byte d.begins) in
+          let columns : FiltersColumns s mask (record { at = place; leaf = 0; out = v₁.out }) v₂ =
+          subst (λ y. FiltersColumns s mask y v₂) ((subst (λ y. CopiesTo s place y v₁) is copy).behind) g in
+          let k = columns.does (c ∷ cs) front z (stands_behind (head x st) st) d.fair (subst (λ n. Begins v₁.out (n ∷ front)) byte d.begins) in
           let same : choose (stands kept) (λ u. get_or s 0 0) (λ u. get_or s 0 0 % 2) ≡ flag 1 (stands m) + flag 2 (stands kept) =
           sym (ap (λ n. choose (stands kept) (λ u. n) (λ u. n % 2)) byte) ∙ map_left (stands m) (stands kept) in
           record {
             leaves = omega (arith, k.leaves);
             same_buffer = k.same_buffer ∙ d.same_buffer;
-            begins = subst (λ n. Begins o₂ (n ∷ (front ++ part (with_count column_bytes) kept))) same k.begins;
+            begins = subst (λ n. Begins v₂.out (n ∷ (front ++ part (with_count column_bytes) kept))) same k.begins;
           }
 
-  pub sheet_bare : {mask : Bytes} → t ≡ false → FiltersSheet s mask o o₁ start
+  pub sheet_bare : {mask : Bytes} → t ≡ false → FiltersSheet s mask v v₁
   unfolding sheet_bytes leaf_count leaf_count_of_each filter_columns filter_each
-  sheet_bare {mask} h = record { does = λ x good i small room z. go x.metadata x.columns i (head_copied x i small room z) }
+  sheet_bare {mask} h = record { does = λ x good i small room is z. go x.metadata x.columns i is (head_copied x i small room is z) }
     where
       go : (m : Metadata) (cs : List (Field max_levels)) → let x : Schema = record { metadata = m; columns = cs } in
-          s ≡ sheet_bytes x → Passed s (sheet_head x) 0 (sheet_head x) (record { at = 0; leaf = 0 }) o [] o₁ (record { at = place; leaf = 0 })
-          → Kept (leaf_count x) (sheet_bytes (filtered x mask)) o o₁ start
-      go m [] i d = record {
-        leaves = ap (λ r. r.leaf) copy.behind;
+          s ≡ sheet_bytes x → v ≡ start v.out → Headed s place v.out v₁.out x → Kept (leaf_count x) (sheet_bytes (filtered x mask)) v v₁
+      go m [] i is d = record {
+        leaves = ap (λ r. r.leaf) copy.behind ∙ ap (λ r. r.leaf) is;
         same_buffer = d.same_buffer;
-        begins = subst (λ b. Begins o₁ ((flag 1 (stands m) + flag 2 false) ∷ b)) (sym (append-nil (part (with_count pair_bytes) m))) d.begins;
+        begins = subst (λ b. Begins v₁.out ((flag 1 (stands m) + flag 2 false) ∷ b)) (sym (append-nil (part (with_count pair_bytes) m))) d.begins;
       }
-      go m (c ∷ cs) i d = absurd (false≢true (sym h ∙ columns_bit e head b (record { metadata = m; columns = c ∷ cs }) (whole_stands s _ i)))
+      go m (c ∷ cs) i is d = absurd (false≢true (sym h ∙ columns_bit e head b (record { metadata = m; columns = c ∷ cs }) (whole_stands s _ i)))

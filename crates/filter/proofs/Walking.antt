@@ -16,8 +16,7 @@ use Rattle.walk.proofs.Standing.{first_stands, stands_behind}
 use Rattle.buffer.specs.Buffer.{pasted}
 use Rattle.buffer.specs.declared.Output.{Output}
 use Rattle.buffer.specs.Puts.{Puts}
-use Rattle.filter.specs.declared.Reach.{Reach}
-use Rattle.filter.specs.Filters.{Begins, Filters, back_to, taken_back}
+use Rattle.filter.specs.Filters.{Walk, Begins, Filters, CopiesTo, back_to, taken_back, undone}
 
 -- What was put
 
@@ -56,15 +55,15 @@ begins_over x a b k {o} {p} g e n f h =
 
 -- What is left of a and k, where a is taken back if k is nothing
 
-pub begins_unless : (x a k : Bytes) {o : Output} {from start : ℕ} → Begins o ((x ++ a) ++ k) → from ≡ length x → start ≡ length (x ++ a)
-    → Begins (taken_back from start o) (x ++ part (λ k. a ++ k) k)
+pub begins_unless : (x a k : Bytes) {o : Output} {put front : ℕ} → Begins o ((x ++ a) ++ k) → put ≡ length x → front ≡ length (x ++ a)
+    → Begins (back_to (choose (eqb o.written front) (λ u. put) λ u. o.written) o) (x ++ part (λ k. a ++ k) k)
 unfolding choose
-begins_unless x a [] {o} {from} {start} g e i =
-    let none : o.written ≡ start = omega (arith, g.end, i, length-append (x ++ a) []) in
-    let back : Begins (back_to from o) x = begins_shorter x (a ++ []) (subst (Begins o) (append_assoc x a []) g) e in
-    rw (eq-eqb o.written start none) (subst (Begins (back_to from o)) (sym (append-nil x)) back)
-begins_unless x a (c ∷ k) {o} {from} {start} g e i =
-    rw (ne_eqb o.written start λ z. absurd (omega (arith, g.end, i, z, length-append (x ++ a) (c ∷ k)))) (subst (Begins o) (append_assoc x a (c ∷ k)) g)
+begins_unless x a [] {o} {put} {front} g e i =
+    let none : o.written ≡ front = omega (arith, g.end, i, length-append (x ++ a) []) in
+    let back : Begins (back_to put o) x = begins_shorter x (a ++ []) (subst (Begins o) (append_assoc x a []) g) e in
+    rw (eq-eqb o.written front none) (subst (Begins (back_to put o)) (sym (append-nil x)) back)
+begins_unless x a (c ∷ k) {o} {put} {front} g e i =
+    rw (ne_eqb o.written front λ z. absurd (omega (arith, g.end, i, z, length-append (x ++ a) (c ∷ k)))) (subst (Begins o) (append_assoc x a (c ∷ k)) g)
 
 unless_inside : (from start q n : ℕ) → from ≤ n → q ≤ n → choose (eqb q start) (λ u. from) (λ u. q) ≤ n
 unfolding choose
@@ -76,29 +75,28 @@ unless_inside from start q n h k = go (eqb q start)
 
 -- Steps of the walk
 
-module _ {s : Bytes} {from : Reach} {o : Output} where
-  pub filters_none : Filters s [] 0 [] from o o from
+module _ {s : Bytes} {v : Walk} where
+  pub filters_none : Filters s [] 0 [] v v
   filters_none = record {
-    does = λ x st h g. record { behind = omega arith; leaves = omega arith; same_buffer = refl; fair = h; begins = subst (Begins o) (sym (append-nil x)) g };
+    does = λ x st h g. record { behind = omega arith; leaves = omega arith; same_buffer = refl; fair = h; begins = subst (Begins v.out) (sym (append-nil x)) g };
   }
 
   -- with the bytes at hand
-  pub filters_when : {b : Bytes} {n : ℕ} {k : Bytes} {o' : Output} {r : Reach} → (Stands s from.at b → Filters s b n k from o o' r) → Filters s b n k from o o' r
+  pub filters_when : {b : Bytes} {n : ℕ} {k : Bytes} {v' : Walk} → (Stands s v.at b → Filters s b n k v v') → Filters s b n k v v'
   filters_when f = record { does = λ x st. (f st).does x st }
 
   -- as other bytes and leaves that are the same
-  pub filters_as : {a b : Bytes} {n m : ℕ} {k j : Bytes} {o' : Output} {r : Reach} → a ≡ b → n ≡ m → k ≡ j → Filters s a n k from o o' r → Filters s b m j from o o' r
-  filters_as {a} {b} {n} {m} {k} {j} {o'} {r} d e f h =
-      subst (λ b. Filters s b m j from o o' r) d (subst (λ m. Filters s a m j from o o' r) e (subst (λ k. Filters s a n k from o o' r) f h))
+  pub filters_as : {a b : Bytes} {n m : ℕ} {k j : Bytes} {v' : Walk} → a ≡ b → n ≡ m → k ≡ j → Filters s a n k v v' → Filters s b m j v v'
+  filters_as {a} {b} {n} {m} {k} {j} {v'} d e f h =
+      subst (λ b. Filters s b m j v v') d (subst (λ m. Filters s a m j v v') e (subst (λ k. Filters s a n k v v') f h))
 
   -- bytes without a leaf of their own are copied
-  pub filters_copied : (a : Bytes) {m : ℕ} {o' : Output} → Skips s from.at a m → ((b : Bytes) → Stands s from.at b → m ≡ from.at + length b → Puts b o o')
-      → Filters s a 0 a from o o' (record { at = m; leaf = from.leaf })
-  filters_copied a f put = record {
+  pub filters_copied : (a : Bytes) {to : ℕ} {v' : Walk} → Skips s v.at a to → CopiesTo s to v v' → Filters s a 0 a v (record { at = to; leaf = v.leaf; out = v'.out })
+  filters_copied a f copy = record {
     does = λ x st h g.
         let e = f.behind st in
-        let b = put a st e in
-        let room : o.written + length a ≤ max_sheet_bytes = omega (arith, h.written, h.small, st.inside) in
+        let b = copy.puts a st e in
+        let room : v.out.written + length a ≤ max_sheet_bytes = omega (arith, h.written, h.small, st.inside) in
         record {
           behind = e;
           leaves = omega arith;
@@ -114,29 +112,29 @@ module _ {s : Bytes} {from : Reach} {o : Output} where
   }
 
   -- one part, then another, of which something is known once the leaves of the first are counted
-  pub filters_join : {a b : Bytes} {n n' : ℕ} {k k' : Bytes} {o₁ : Output} {mid : Reach} {o₂ : Output} {r : Reach}
-      → Filters s a n k from o o₁ mid → (mid.leaf ≡ from.leaf + n → Filters s b n' k' mid o₁ o₂ r) → Filters s (a ++ b) (n + n') (k ++ k') from o o₂ r
-  filters_join {a} {b} {n} {n'} {k} {k'} {o₁} {mid} {o₂} f h = record {
+  pub filters_join : {a b : Bytes} {n n' : ℕ} {k k' : Bytes} {v₁ v₂ : Walk} → Filters s a n k v v₁ → (v₁.leaf ≡ v.leaf + n → Filters s b n' k' v₁ v₂)
+      → Filters s (a ++ b) (n + n') (k ++ k') v v₂
+  filters_join {a} {b} {n} {n'} {k} {k'} {v₁} {v₂} f h = record {
     does = λ x st fair g.
         let d = f.does x (first_stands a b st) fair g in
-        let skip : Skips s from.at a mid.at = record { behind = λ u. d.behind } in
+        let skip : Skips s v.at a v₁.at = record { behind = λ u. d.behind } in
         let e = (h d.leaves).does (x ++ k) (stands_behind skip st) d.fair d.begins in
         record {
           behind = omega (arith, d.behind, e.behind, length-append a b);
           leaves = omega (arith, d.leaves, e.leaves);
           same_buffer = e.same_buffer ∙ d.same_buffer;
           fair = e.fair;
-          begins = subst (Begins o₂) (append_assoc x k k') e.begins;
+          begins = subst (Begins v₂.out) (append_assoc x k k') e.begins;
         };
   }
 
   -- a part without a leaf, of which c is put, then another: where nothing is kept of that, c is taken back
-  pub filters_fronted : {a b c : Bytes} {n : ℕ} {k : Bytes} {o₁ : Output} {mid : Reach} {o₂ o₃ : Output} {r : Reach}
-      → Filters s a 0 c from o o₁ mid → Filters s b n k mid o₁ o₂ r → o₃ ≡ taken_back o.written o₁.written o₂ → Filters s (a ++ b) n (part (λ k. c ++ k) k) from o o₃ r
-  filters_fronted {a} {b} {c} {n} {k} {o₁} {mid} {o₂} {o₃} {r} f h u = subst (λ o'. Filters s (a ++ b) n (part (λ k. c ++ k) k) from o o' r) (sym u) (record {
+  pub filters_fronted : {a b c : Bytes} {n : ℕ} {k : Bytes} {v₁ v₂ : Walk} {o : Output} → Filters s a 0 c v v₁ → Filters s b n k v₁ v₂
+      → o ≡ taken_back v.out.written v₁.out.written v₂.out → Filters s (a ++ b) n (part (λ k. c ++ k) k) v (record { at = v₂.at; leaf = v₂.leaf; out = o })
+  filters_fronted {a} {b} {c} {n} {k} {v₁} {v₂} f h u = subst (λ o. Filters s (a ++ b) n (part (λ k. c ++ k) k) v (record { at = v₂.at; leaf = v₂.leaf; out = o })) (sym u) (record {
     does = λ x st fair g.
         let d = f.does x (first_stands a b st) fair g in
-        let skip : Skips s from.at a mid.at = record { behind = λ u. d.behind } in
+        let skip : Skips s v.at a v₁.at = record { behind = λ u. d.behind } in
         let e = h.does (x ++ c) (stands_behind skip st) d.fair d.begins in
         record {
           behind = omega (arith, d.behind, e.behind, length-append a b);
@@ -146,19 +144,18 @@ module _ {s : Bytes} {from : Reach} {o : Output} where
             small = fair.small;
             room = e.fair.room;
             leaves = e.fair.leaves;
-            written = unless_inside o.written o₁.written o₂.written r.at (omega (arith, fair.written, d.behind, e.behind)) e.fair.written;
+            written = unless_inside v.out.written v₁.out.written v₂.out.written v₂.at (omega (arith, fair.written, d.behind, e.behind)) e.fair.written;
           };
           begins = begins_unless x c k e.begins g.end d.begins.end;
         };
   })
 
-  -- a part without a leaf is put, and then the walk is where it was
-  pub filters_undone : (a b : Bytes) {c : Bytes} {o₁ : Output} {mid : Reach} (o₂ : Output) → Stands s from.at (a ++ b)
-      → Filters s a 0 c from o o₁ mid → Filters s [] 0 [] mid o₁ (back_to o₁.written o₂) mid → Filters s [] 0 [] from o (back_to o.written o₂) from
-  filters_undone a b {c} {o₁} {mid} o₂ st f h = record {
+  -- a part without a leaf is put, and then the walk is to begin where it was
+  pub filters_undone : (a b : Bytes) {c : Bytes} {v₁ : Walk} (o : Output) → Stands s v.at (a ++ b) → Filters s a 0 c v v₁ → Filters s [] 0 [] v₁ (undone v₁ o) → Filters s [] 0 [] v (undone v o)
+  filters_undone a b {c} {v₁} o st f h = record {
     does = λ x none fair g.
         let d = f.does x (first_stands a b st) fair g in
-        let skip : Skips s from.at a mid.at = record { behind = λ u. d.behind } in
+        let skip : Skips s v.at a v₁.at = record { behind = λ u. d.behind } in
         let e = h.does (x ++ c) (first_stands [] b (stands_behind skip st)) d.fair d.begins in
         let back = begins_shorter (x ++ c) [] e.begins refl in
         record {
@@ -166,6 +163,6 @@ module _ {s : Bytes} {from : Reach} {o : Output} where
           leaves = omega arith;
           same_buffer = e.same_buffer ∙ d.same_buffer;
           fair = record { small = fair.small; room = e.fair.room; leaves = fair.leaves; written = fair.written };
-          begins = subst (Begins (back_to o.written o₂)) (sym (append-nil x)) (begins_shorter x c back g.end);
+          begins = subst (Begins (back_to v.out.written o)) (sym (append-nil x)) (begins_shorter x c back g.end);
         };
   }

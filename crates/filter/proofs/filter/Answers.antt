@@ -9,12 +9,12 @@ use Rattle.filter.proofs.filter.Goals as goal
 
 pub returns-then-reach-mask : goal.returns-then-reach-mask
 returns-then-reach-mask c =
-    call_mask _ c.read_sheet.ensures (λ k. (c.type_inv.sheet k).fits) c.in-Ok.is c.work_fits.ensures c.in_ok-work_fits.was c.new-out.ensures.1 c.new-out.ensures.2 c.filter_sheet-reach.ensures (λ e. search rules)
+    call_mask _ c.read_sheet.ensures (λ k. (c.type_inv.sheet k).fits) c.in-Ok.is c.work_fits.ensures c.in_ok-work_fits.was c.new-out.ensures.1 c.new-out.ensures.2 c.filter_sheet.ensures (λ e. search rules)
     _ c.if-reach-mask.true (c.refuse-then-reach-mask.ensures.0 ∙ ap Err c.from.ensures) (search rules) c.refuse-then-reach-mask.ensures.1
 
 pub slice_bounds-write_answer-end : goal.slice_bounds-write_answer-end
 slice_bounds-write_answer-end c =
-    end_inside _ c.read_sheet.ensures (λ k. (c.type_inv.sheet k).fits) c.in-Ok.is c.work_fits.ensures c.in_ok-work_fits.was c.new-out.ensures.1 c.new-out.ensures.2 c.filter_sheet-reach.ensures (λ e. search rules)
+    end_inside _ c.read_sheet.ensures (λ k. (c.type_inv.sheet k).fits) c.in-Ok.is c.work_fits.ensures c.in_ok-work_fits.was c.new-out.ensures.1 c.new-out.ensures.2 c.filter_sheet.ensures (λ e. search rules)
 
 pub returns-in-Err : goal.returns-in-Err
 returns-in-Err c =
@@ -22,11 +22,11 @@ returns-in-Err c =
 
 pub returns-else-reach-mask : goal.returns-else-reach-mask
 returns-else-reach-mask c =
-    call_filtered _ c.read_sheet.ensures (λ k. (c.type_inv.sheet k).fits) c.in-Ok.is c.work_fits.ensures c.in_ok-work_fits.was c.new-out.ensures.1 c.new-out.ensures.2 c.filter_sheet-reach.ensures (λ e. search rules)
+    call_filtered _ c.read_sheet.ensures (λ k. (c.type_inv.sheet k).fits) c.in-Ok.is c.work_fits.ensures c.in_ok-work_fits.was c.new-out.ensures.1 c.new-out.ensures.2 c.filter_sheet.ensures (λ e. search rules)
     _ _ _ c.if-reach-mask.false c.write_answer-answered.ensures (search rules) c.clear.ensures
 
 pub returns-in_err-work_fits : goal.returns-in_err-work_fits
 returns-in_err-work_fits c = call_short _ _ _ _ c.work_fits.ensures c.in_err-work_fits.was (handed_up _ c.from_residual.ensures.1)
 
 pub slice_bounds-write_answer-end-in-Ok : goal.slice_bounds-write_answer-end-in-Ok
-slice_bounds-write_answer-end-in-Ok c = sym (length-take-le _ _ (end_inside _ c.read_sheet.ensures (λ k. (c.type_inv.sheet k).fits) c.in-Ok.is c.work_fits.ensures c.in_ok-work_fits.was c.new-out.ensures.1 c.new-out.ensures.2 c.filter_sheet-reach.ensures (λ e. search rules)))
+slice_bounds-write_answer-end-in-Ok c = sym (length-take-le _ _ (end_inside _ c.read_sheet.ensures (λ k. (c.type_inv.sheet k).fits) c.in-Ok.is c.work_fits.ensures c.in_ok-work_fits.was c.new-out.ensures.1 c.new-out.ensures.2 c.filter_sheet.ensures (λ e. search rules)))

@@ -4,6 +4,7 @@ use Prim.Native.Nat.{ℕ, ◌≤◌, ◌+◌, ◌*◌, ◌-◌}
 use lib.ListN.{length}
 use Rattle.model.specs.Bytes.{Bytes}
 use Rattle.model.specs.Tree.{Head}
+use Rattle.filter.specs.Filters.{reached}
 use Rattle.filter.proofs.Rows.{Turns}
 use Rattle.filter.proofs.Sieve.+filtering.Given as goal
 
@@ -36,6 +37,5 @@ decreases-filter_type l = 8 * l.levels + 0
 
 abbrev pub invariant-filter_row-loop : goal.invariant-filter_row-loop
 invariant-filter_row-loop v =
-    (v.row.kept ≤ v.counter)
-    × ((l : ℕ) (front : Head → Bytes) → ((h : Head) → length (front h) ≡ v.before) → l ≤ v.levels
-    → Turns l front v.self.sheet.now v.self.mask.now v.count (record { reach = v.fn.from; kept = 0 }) v.initial.out (v.count - v.counter) v.row v.out)
+    (v.kept ≤ v.counter)
+    × ((l : ℕ) (front : Head → Bytes) → ((h : Head) → length (front h) ≡ v.before) → l ≤ v.levels → Turns l front v.self.sheet.now v.self.mask.now v.count (reached v.initial.reach v.initial.out) (v.count - v.counter) (reached v.reach v.out) v.kept)
