@@ -46,7 +46,7 @@ unfolding filter_answer
 filter_refused s mask e h = sheet_refused s (answered mask) e h
 
 module _ {s : Bytes} (mask : Bytes) {read : Result ℕ Refusal} {end : ℕ} {room : Result Unit Refusal} {w : Bytes} {o : Output} {v : Walk} {w' : Bytes}
-    (i : numbered read ≡ step_of (read_sheet s)) (b : AreBytes s) (is : read ≡ Ok end) (tested : room ≡ unless_short (ltb (length w) (work_bytes_per_sheet_byte * length s))) (h : room ≡ Ok tt) (e : o.buffer.now ≡ w) (z : o.written ≡ 0) (g : FiltersSheet s mask (start o) v)
+    (i : numbered read ≡ step_of (read_sheet s)) (b : AreBytes s) (is : read ≡ Ok end) (tested : room ≡ unless_short (ltb (length w) (work_bytes_per_sheet_byte * length s))) (h : room ≡ Ok tt) (e : o.buffer.now ≡ w) (z : o.written ≡ 0) (g : FiltersSheet (start s mask o) v)
     (back : v.out.buffer.ghost_name ≡ o.buffer.ghost_name → w' ≡ v.out.buffer.now) where
   a : Whole s (answered mask)
   a = sheet_whole s (answered mask) i b is
@@ -55,7 +55,7 @@ module _ {s : Bytes} (mask : Bytes) {read : Result ℕ Refusal} {end : ℕ} {roo
   unfolding filter_answer
   outcome = a.outcome
 
-  kept : Kept (leaf_count a.schema) (sheet_bytes (filtered a.schema mask)) (start o) v
+  kept : Kept (leaf_count a.schema) (sheet_bytes (filtered a.schema mask)) (start s mask o) v
   kept = g.does a.schema a.fits.well_formed a.bytes (omega (arith, a.fits.size, ap length a.bytes)) (omega (arith, room_enough (length w) (length s) tested h, ap length e)) refl z
 
   -- the work buffer afterwards

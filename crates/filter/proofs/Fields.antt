@@ -21,7 +21,7 @@ use Rattle.walk.proofs.Standing.{skip_ahead, skip_join}
 use Rattle.walk.proofs.Parts.{Ahead}
 use Rattle.walk.proofs.Descents.{type_stands}
 use Rattle.buffer.specs.declared.Output.{Output}
-use Rattle.filter.specs.Filters.{Walk, Begins, Filters, CopiesTo, taken_back, undone, FiltersLeaf, first_bytes, alone, below, TypeSifted, FieldFiltered, ChildFiltered, FiltersType, FiltersField, FiltersChild, child_bytes, kept_of}
+use Rattle.filter.specs.Filters.{Walk, walk_to, Begins, Filters, CopiesTo, taken_back, undone, FiltersLeaf, first_bytes, alone, below, TypeSifted, FieldFiltered, ChildFiltered, FiltersType, FiltersField, FiltersChild, child_bytes, kept_of}
 use Rattle.filter.proofs.Walking.{filters_when, filters_as, filters_copied, filters_join, filters_fronted, filters_undone}
 
 -- Bytes that are not none
@@ -81,9 +81,9 @@ leaf_bytes f x mask next =
     go [] = refl
     go (b ∷ m) = one (eqb b 0)
 
-module _ {s : Bytes} {v : Walk} {end after : ℕ} (f : v.leaf < max_sheet_bytes → after ≡ v.leaf + 1) (m : ℕ) {byte : ℕ} (d : byte ≡ m) where
+module _ {v : Walk} {end after : ℕ} (f : v.leaf < max_sheet_bytes → after ≡ v.leaf + 1) (m : ℕ) {byte : ℕ} (d : byte ≡ m) where
   -- a leaf that is not kept
-  pub leaf_dropped : byte ≡ 0 → (b : Bytes) → 1 ≤ length b → Skips s v.at b end → Filters s b 1 (choose (eqb m 0) (λ u. []) λ u. b) v (record { at = end; leaf = after; out = v.out })
+  pub leaf_dropped : byte ≡ 0 → (b : Bytes) → 1 ≤ length b → Skips v.sheet v.at b end → Filters b 1 (choose (eqb m 0) (λ u. []) λ u. b) v (record { sheet = v.sheet; mask = v.mask; at = end; leaf = after; out = v.out })
   unfolding choose
   leaf_dropped e b n skip =
       filters_as refl refl (sym (ap (λ m. choose (eqb m 0) (λ u. []) λ u. b) (sym d ∙ e)))
@@ -92,6 +92,8 @@ module _ {s : Bytes} {v : Walk} {end after : ℕ} (f : v.leaf < max_sheet_bytes 
             let i = skip.behind st in
             let j = f (omega (arith, h.leaves, h.small, st.inside, n)) in
             record {
+              sheet = refl;
+              mask = refl;
               behind = i;
               leaves = j;
               same_buffer = refl;
@@ -101,17 +103,19 @@ module _ {s : Bytes} {v : Walk} {end after : ℕ} (f : v.leaf < max_sheet_bytes 
       })
 
   -- a leaf that is copied
-  pub leaf_kept : {v' : Walk} → (byte ≡ 0 → ⊥) → CopiesTo s end (record { at = v.at; leaf = after; out = v.out }) v'
-      → (b : Bytes) → 1 ≤ length b → Skips s v.at b end → Filters s b 1 (choose (eqb m 0) (λ u. []) λ u. b) v v'
+  pub leaf_kept : {v' : Walk} → (byte ≡ 0 → ⊥) → CopiesTo end (record { sheet = v.sheet; mask = v.mask; at = v.at; leaf = after; out = v.out }) v'
+      → (b : Bytes) → 1 ≤ length b → Skips v.sheet v.at b end → Filters b 1 (choose (eqb m 0) (λ u. []) λ u. b) v v'
   unfolding choose
   leaf_kept {v'} e copy b n skip =
-      subst (Filters s b 1 (choose (eqb m 0) (λ u. []) λ u. b) v) (sym copy.behind)
+      subst (Filters b 1 (choose (eqb m 0) (λ u. []) λ u. b) v) (sym copy.behind)
       (filters_as refl refl (sym (choose_false _ _ _ (go (eqb m 0) refl)))
       (record {
         does = λ x st h g.
             let j = f (omega (arith, h.leaves, h.small, st.inside, n)) in
             let c = (filters_copied {v = v} b skip (record { behind = refl; puts = copy.puts })).does x st h g in
             record {
+              sheet = refl;
+              mask = refl;
               behind = c.behind;
               leaves = j;
               same_buffer = c.same_buffer;
@@ -134,32 +138,32 @@ nested_bytes l f m [] rest = refl
 nested_bytes l f m (t ∷ ts) rest =
     part_some (λ k. head_bytes f.head ++ k) (type_bytes l t) (type_some l t) ∙ sym (append-nil (head_bytes f.head ++ type_bytes l t))
 
-module _ {s : Bytes} (mask : Bytes) {v : Walk} {body : ℕ} (levels : ℕ) {v₁ v₂ : Walk} {r : Bool} (skip : (h : Head) → Skips s v.at (head_bytes h) body) (copy : CopiesTo s body v v₁)
-    (type : FiltersType s mask levels true v₁ v₂ r) where
-  type_filtered : (l : ℕ) (f : Field l) → l ≤ levels → LaidOut l f.data_type → Stands s v.at (field_bytes (type_bytes l) f)
-      → TypeSifted s mask l true f.data_type (record { at = body; leaf = v.leaf; out = v₁.out }) v₂ r
-  type_filtered l f h z st = subst (λ y. FiltersType s mask levels true y v₂ r) copy.behind type l f.data_type h z (type_stands l f skip st)
+module _ {v : Walk} {body : ℕ} (levels : ℕ) {v₁ v₂ : Walk} {r : Bool} (skip : (h : Head) → Skips v.sheet v.at (head_bytes h) body) (copy : CopiesTo body v v₁)
+    (type : FiltersType levels true v₁ v₂ r) where
+  type_filtered : (l : ℕ) (f : Field l) → l ≤ levels → LaidOut l f.data_type → Stands v.sheet v.at (field_bytes (type_bytes l) f)
+      → TypeSifted l true f.data_type (walk_to body v v₁.out) v₂ r
+  type_filtered l f h z st = subst (λ y. FiltersType levels true y v₂ r) copy.behind type l f.data_type h z (type_stands l f skip st)
 
-  pub field_nested : {o : Output} → r ≡ true → o ≡ taken_back v.out.written v₁.out.written v₂.out → FiltersField s mask levels v (record { at = v₂.at; leaf = v₂.leaf; out = o })
+  pub field_nested : {o : Output} → r ≡ true → o ≡ taken_back v.out.written v₁.out.written v₂.out → FiltersField levels v (walk_to v₂.at v₂ o)
   unfolding field_bytes filter_field field_leaf_count
   field_nested {o} e u l f h z = filters_when λ st. go (type_filtered l f h z st)
     where
-      go : TypeSifted s mask l true f.data_type (record { at = body; leaf = v.leaf; out = v₁.out }) v₂ r → FieldFiltered s mask l f v (record { at = v₂.at; leaf = v₂.leaf; out = o })
+      go : TypeSifted l true f.data_type (walk_to body v v₁.out) v₂ r → FieldFiltered l f v (walk_to v₂.at v₂ o)
       go (alone a b c d) = absurd (false≢true (sym c ∙ e))
       go (below ts rest n a b c d) =
           filters_as refl (sym (ap field_leaf_count b))
-          (nested_bytes l f (drop v.leaf mask) ts rest ∙ sym (ap (λ y. each (field_bytes (type_bytes l)) (filter_to f (drop v.leaf mask) y).kept) a))
+          (nested_bytes l f (drop v.leaf v.mask) ts rest ∙ sym (ap (λ y. each (field_bytes (type_bytes l)) (filter_to f (drop v.leaf v.mask) y).kept) a))
           (filters_fronted (filters_copied (head_bytes f.head) (skip f.head) copy) d u)
 
   -- the field is a leaf
-  pub field_leaf : {end : ℕ} {v₃ : Walk} → r ≡ false → SkipsType s body levels end → FiltersLeaf s mask end (undone v v₂.out) v₃ → FiltersField s mask levels v v₃
+  pub field_leaf : {end : ℕ} {v₃ : Walk} → r ≡ false → SkipsType v.sheet body levels end → FiltersLeaf end (undone v v₂.out) v₃ → FiltersField levels v v₃
   unfolding field_bytes filter_field filter_to field_leaf_count
   field_leaf {end} {v₃} e types i l f h z = filters_when λ st. go st (type_filtered l f h z st)
     where
-      go : Stands s v.at (field_bytes (type_bytes l) f) → TypeSifted s mask l true f.data_type (record { at = body; leaf = v.leaf; out = v₁.out }) v₂ r → FieldFiltered s mask l f v v₃
+      go : Stands v.sheet v.at (field_bytes (type_bytes l) f) → TypeSifted l true f.data_type (walk_to body v v₁.out) v₂ r → FieldFiltered l f v v₃
       go st (alone a b c d) =
           filters_as refl (sym (ap field_leaf_count b))
-          (leaf_bytes (field_bytes (type_bytes l)) f mask v.leaf ∙ sym (ap (λ y. each (field_bytes (type_bytes l)) (filter_to f (drop v.leaf mask) y).kept) a))
+          (leaf_bytes (field_bytes (type_bytes l)) f v.mask v.leaf ∙ sym (ap (λ y. each (field_bytes (type_bytes l)) (filter_to f (drop v.leaf v.mask) y).kept) a))
           (filters_join (filters_undone (head_bytes f.head) (type_bytes l f.data_type) v₂.out st (filters_copied (head_bytes f.head) (skip f.head) copy) d)
           λ q. i (field_bytes (type_bytes l) f) (field_some (type_bytes l) f) (skip_join (skip f.head) (types l f.data_type h z)))
       go st (below ts rest n a b c d) = absurd (false≢true (sym e ∙ c))
@@ -173,9 +177,9 @@ child_kept l front f ks (one g h e) =
     rw (e, ← h, append-nil (field_bytes (type_bytes l) g), append-nil (front g.head ++ field_bytes (type_bytes l) g))
     (part_some (λ k. front g.head ++ k) (field_bytes (type_bytes l) g) (field_some (type_bytes l) g))
 
-module _ {s : Bytes} (mask : Bytes) {v : Walk} {field : ℕ} (before levels : ℕ) {v₁ v₂ : Walk} {o : Output} where
-  pub child_filtered : Ahead s v.at before field → CopiesTo s field v v₁ → FiltersField s mask levels v₁ v₂ → o ≡ taken_back v.out.written v₁.out.written v₂.out
-      → FiltersChild s mask before levels v (record { at = v₂.at; leaf = v₂.leaf; out = o })
+module _ {v : Walk} {field : ℕ} (before levels : ℕ) {v₁ v₂ : Walk} {o : Output} where
+  pub child_filtered : Ahead v.sheet v.at before field → CopiesTo field v v₁ → FiltersField levels v₁ v₂ → o ≡ taken_back v.out.written v₁.out.written v₂.out
+      → FiltersChild before levels v (walk_to v₂.at v₂ o)
   child_filtered a copy g u l front f n h z =
-      filters_as refl refl (child_kept l front f (kept_of l f (drop v.leaf mask)) (field_one (filter_type l true) f (drop v.leaf mask)))
-      (filters_fronted (filters_copied (front f.head) (skip_ahead (front f.head) (n f.head) a.1) copy) (subst (λ y. FiltersField s mask levels y v₂) copy.behind g l f h z) u)
+      filters_as refl refl (child_kept l front f (kept_of l f (drop v.leaf v.mask)) (field_one (filter_type l true) f (drop v.leaf v.mask)))
+      (filters_fronted (filters_copied (front f.head) (skip_ahead (front f.head) (n f.head) a.1) copy) (subst (λ y. FiltersField levels y v₂) copy.behind g l f h z) u)

@@ -16,7 +16,7 @@ use Rattle.walk.proofs.Standing.{first_stands, stands_behind}
 use Rattle.buffer.specs.Buffer.{pasted}
 use Rattle.buffer.specs.declared.Output.{Output}
 use Rattle.buffer.specs.Puts.{Puts}
-use Rattle.filter.specs.Filters.{Walk, Begins, Filters, CopiesTo, back_to, taken_back, undone}
+use Rattle.filter.specs.Filters.{Walk, walk_to, Begins, Passed, Filters, CopiesTo, back_to, taken_back, undone}
 
 -- What was put
 
@@ -75,29 +75,31 @@ unless_inside from start q n h k = go (eqb q start)
 
 -- Steps of the walk
 
-module _ {s : Bytes} {v : Walk} where
-  pub filters_none : Filters s [] 0 [] v v
+module _ {v : Walk} where
+  pub filters_none : Filters [] 0 [] v v
   filters_none = record {
-    does = λ x st h g. record { behind = omega arith; leaves = omega arith; same_buffer = refl; fair = h; begins = subst (Begins v.out) (sym (append-nil x)) g };
+    does = λ x st h g. record { sheet = refl; mask = refl; behind = omega arith; leaves = omega arith; same_buffer = refl; fair = h; begins = subst (Begins v.out) (sym (append-nil x)) g };
   }
 
   -- with the bytes at hand
-  pub filters_when : {b : Bytes} {n : ℕ} {k : Bytes} {v' : Walk} → (Stands s v.at b → Filters s b n k v v') → Filters s b n k v v'
+  pub filters_when : {b : Bytes} {n : ℕ} {k : Bytes} {v' : Walk} → (Stands v.sheet v.at b → Filters b n k v v') → Filters b n k v v'
   filters_when f = record { does = λ x st. (f st).does x st }
 
   -- as other bytes and leaves that are the same
-  pub filters_as : {a b : Bytes} {n m : ℕ} {k j : Bytes} {v' : Walk} → a ≡ b → n ≡ m → k ≡ j → Filters s a n k v v' → Filters s b m j v v'
+  pub filters_as : {a b : Bytes} {n m : ℕ} {k j : Bytes} {v' : Walk} → a ≡ b → n ≡ m → k ≡ j → Filters a n k v v' → Filters b m j v v'
   filters_as {a} {b} {n} {m} {k} {j} {v'} d e f h =
-      subst (λ b. Filters s b m j v v') d (subst (λ m. Filters s a m j v v') e (subst (λ k. Filters s a n k v v') f h))
+      subst (λ b. Filters b m j v v') d (subst (λ m. Filters a m j v v') e (subst (λ k. Filters a n k v v') f h))
 
   -- bytes without a leaf of their own are copied
-  pub filters_copied : (a : Bytes) {to : ℕ} {v' : Walk} → Skips s v.at a to → CopiesTo s to v v' → Filters s a 0 a v (record { at = to; leaf = v.leaf; out = v'.out })
+  pub filters_copied : (a : Bytes) {to : ℕ} {v' : Walk} → Skips v.sheet v.at a to → CopiesTo to v v' → Filters a 0 a v (walk_to to v v'.out)
   filters_copied a f copy = record {
     does = λ x st h g.
         let e = f.behind st in
         let b = copy.puts a st e in
         let room : v.out.written + length a ≤ max_sheet_bytes = omega (arith, h.written, h.small, st.inside) in
         record {
+          sheet = refl;
+          mask = refl;
           behind = e;
           leaves = omega arith;
           same_buffer = b.same_buffer;
@@ -111,15 +113,20 @@ module _ {s : Bytes} {v : Walk} where
         };
   }
 
+  -- the bytes behind a part that was passed
+  pub stands_on : {a : Bytes} (b : Bytes) {n : ℕ} {k x : Bytes} {v' : Walk} → Passed a n k v x v' → Stands v.sheet v.at (a ++ b) → Stands v'.sheet v'.at b
+  stands_on b {v' = v'} d st = subst (λ s. Stands s v'.at b) (sym d.sheet) (stands_behind (record { behind = λ u. d.behind }) st)
+
   -- one part, then another, of which something is known once the leaves of the first are counted
-  pub filters_join : {a b : Bytes} {n n' : ℕ} {k k' : Bytes} {v₁ v₂ : Walk} → Filters s a n k v v₁ → (v₁.leaf ≡ v.leaf + n → Filters s b n' k' v₁ v₂)
-      → Filters s (a ++ b) (n + n') (k ++ k') v v₂
+  pub filters_join : {a b : Bytes} {n n' : ℕ} {k k' : Bytes} {v₁ v₂ : Walk} → Filters a n k v v₁ → (v₁.leaf ≡ v.leaf + n → Filters b n' k' v₁ v₂)
+      → Filters (a ++ b) (n + n') (k ++ k') v v₂
   filters_join {a} {b} {n} {n'} {k} {k'} {v₁} {v₂} f h = record {
     does = λ x st fair g.
         let d = f.does x (first_stands a b st) fair g in
-        let skip : Skips s v.at a v₁.at = record { behind = λ u. d.behind } in
-        let e = (h d.leaves).does (x ++ k) (stands_behind skip st) d.fair d.begins in
+        let e = (h d.leaves).does (x ++ k) (stands_on b d st) d.fair d.begins in
         record {
+          sheet = e.sheet ∙ d.sheet;
+          mask = e.mask ∙ d.mask;
           behind = omega (arith, d.behind, e.behind, length-append a b);
           leaves = omega (arith, d.leaves, e.leaves);
           same_buffer = e.same_buffer ∙ d.same_buffer;
@@ -129,19 +136,20 @@ module _ {s : Bytes} {v : Walk} where
   }
 
   -- a part without a leaf, of which c is put, then another: where nothing is kept of that, c is taken back
-  pub filters_fronted : {a b c : Bytes} {n : ℕ} {k : Bytes} {v₁ v₂ : Walk} {o : Output} → Filters s a 0 c v v₁ → Filters s b n k v₁ v₂
-      → o ≡ taken_back v.out.written v₁.out.written v₂.out → Filters s (a ++ b) n (part (λ k. c ++ k) k) v (record { at = v₂.at; leaf = v₂.leaf; out = o })
-  filters_fronted {a} {b} {c} {n} {k} {v₁} {v₂} f h u = subst (λ o. Filters s (a ++ b) n (part (λ k. c ++ k) k) v (record { at = v₂.at; leaf = v₂.leaf; out = o })) (sym u) (record {
+  pub filters_fronted : {a b c : Bytes} {n : ℕ} {k : Bytes} {v₁ v₂ : Walk} {o : Output} → Filters a 0 c v v₁ → Filters b n k v₁ v₂
+      → o ≡ taken_back v.out.written v₁.out.written v₂.out → Filters (a ++ b) n (part (λ k. c ++ k) k) v (walk_to v₂.at v₂ o)
+  filters_fronted {a} {b} {c} {n} {k} {v₁} {v₂} f h u = subst (λ o. Filters (a ++ b) n (part (λ k. c ++ k) k) v (walk_to v₂.at v₂ o)) (sym u) (record {
     does = λ x st fair g.
         let d = f.does x (first_stands a b st) fair g in
-        let skip : Skips s v.at a v₁.at = record { behind = λ u. d.behind } in
-        let e = h.does (x ++ c) (stands_behind skip st) d.fair d.begins in
+        let e = h.does (x ++ c) (stands_on b d st) d.fair d.begins in
         record {
+          sheet = e.sheet ∙ d.sheet;
+          mask = e.mask ∙ d.mask;
           behind = omega (arith, d.behind, e.behind, length-append a b);
           leaves = omega (arith, d.leaves, e.leaves);
           same_buffer = e.same_buffer ∙ d.same_buffer;
           fair = record {
-            small = fair.small;
+            small = e.fair.small;
             room = e.fair.room;
             leaves = e.fair.leaves;
             written = unless_inside v.out.written v₁.out.written v₂.out.written v₂.at (omega (arith, fair.written, d.behind, e.behind)) e.fair.written;
@@ -151,18 +159,19 @@ module _ {s : Bytes} {v : Walk} where
   })
 
   -- a part without a leaf is put, and then the walk is to begin where it was
-  pub filters_undone : (a b : Bytes) {c : Bytes} {v₁ : Walk} (o : Output) → Stands s v.at (a ++ b) → Filters s a 0 c v v₁ → Filters s [] 0 [] v₁ (undone v₁ o) → Filters s [] 0 [] v (undone v o)
+  pub filters_undone : (a b : Bytes) {c : Bytes} {v₁ : Walk} (o : Output) → Stands v.sheet v.at (a ++ b) → Filters a 0 c v v₁ → Filters [] 0 [] v₁ (undone v₁ o) → Filters [] 0 [] v (undone v o)
   filters_undone a b {c} {v₁} o st f h = record {
     does = λ x none fair g.
         let d = f.does x (first_stands a b st) fair g in
-        let skip : Skips s v.at a v₁.at = record { behind = λ u. d.behind } in
-        let e = h.does (x ++ c) (first_stands [] b (stands_behind skip st)) d.fair d.begins in
+        let e = h.does (x ++ c) (first_stands [] b (stands_on b d st)) d.fair d.begins in
         let back = begins_shorter (x ++ c) [] e.begins refl in
         record {
+          sheet = refl;
+          mask = refl;
           behind = omega arith;
           leaves = omega arith;
           same_buffer = e.same_buffer ∙ d.same_buffer;
-          fair = record { small = fair.small; room = e.fair.room; leaves = fair.leaves; written = fair.written };
+          fair = record { small = fair.small; room = omega (arith, e.fair.room, ap length d.sheet); leaves = fair.leaves; written = fair.written };
           begins = subst (Begins (back_to v.out.written o)) (sym (append-nil x)) (begins_shorter x c back g.end);
         };
   }

@@ -13,13 +13,6 @@ use layout::{DICTIONARY, RUN_END_ENCODED, STRUCT, UNION};
 use sheet::Cursor;
 use walk::Elements;
 
-// How far a walk came: the place in the sheet, and the number of the next leaf.
-#[derive(Clone, Copy)]
-struct Reach {
-    at: usize,
-    leaf: usize,
-}
-
 // What stands before a part was put behind so many bytes, up to a position. Where nothing was put behind that, it is taken back: "A nested
 // type with no leaf left vanishes."
 #[tactic(auto, unfolding(model::specs::Bytes::choose))]
@@ -31,52 +24,55 @@ fn take_back(out: &mut Output<'_>, put: usize, front: usize)
     }
 }
 
-// What is filtered, a sheet, and by what: a mask, whose bytes are those of the leaves.
+// What is filtered, a sheet, and by what: a mask, whose bytes are those of the leaves. It is gone over up to a place, and `leaf` is the number
+// of the next leaf there.
 #[derive(Clone, Copy)]
 struct Sieve<'a> {
     sheet: &'a [u8],
     mask: &'a [u8],
+    at: usize,
+    leaf: usize,
 }
 
 impl Sieve<'_> {
     // Copies what stands up to a place, which has no leaf that is not counted yet.
-    fn copy_to(&self, reach: &mut Reach, out: &mut Output<'_>, to: usize)
-        ensures { CopiesTo self.now.sheet.now to (reached reach.old out.old) (reached reach.new out.new) }
+    fn copy_to(&mut self, out: &mut Output<'_>, to: usize)
+        ensures { CopiesTo to (reached self.old out.old) (reached self.new out.new) }
     {
-        walk::put_part(out, self.sheet, reach.at, to);
-        reach.at = to;
+        walk::put_part(out, self.sheet, self.at, to);
+        self.at = to;
     }
 
     // "Mask byte i keeps leaf i unless 0." A field that is a leaf stands up to the place. Behind the mask's end nothing is kept. A sheet has
     // fewer leaves than bytes, so their number never stops at the largest.
-    fn filter_leaf(&self, reach: &mut Reach, out: &mut Output<'_>, end: usize)
-        ensures { FiltersLeaf self.now.sheet.now self.now.mask.now end (reached reach.old out.old) (reached reach.new out.new) }
+    fn filter_leaf(&mut self, out: &mut Output<'_>, end: usize)
+        ensures { FiltersLeaf end (reached self.old out.old) (reached self.new out.new) }
     {
-        let mark = walk::byte(self.mask, reach.leaf);
-        reach.leaf = reach.leaf.saturating_add(1);
+        let mark = walk::byte(self.mask, self.leaf);
+        self.leaf = self.leaf.saturating_add(1);
         if mark == 0 {
-            reach.at = end;
+            self.at = end;
         } else {
-            self.copy_to(reach, out, end);
+            self.copy_to(out, end);
         }
     }
 
     // `filter_field`: the field with what is left of its type, or the leaf that it is.
     #[cycle(filtering)]
-    fn filter_field(&self, reach: &mut Reach, out: &mut Output<'_>, levels: usize)
-        ensures { FiltersField self.now.sheet.now self.now.mask.now levels (reached reach.old out.old) (reached reach.new out.new) }
+    fn filter_field(&mut self, out: &mut Output<'_>, levels: usize)
+        ensures { FiltersField levels (reached self.old out.old) (reached self.new out.new) }
     {
-        let from = *reach;
+        let from = *self;
         let put = out.written;
         let body = walk::skip_head(self.sheet, from.at);
-        self.copy_to(reach, out, body);
+        self.copy_to(out, body);
         let front = out.written;
-        if self.filter_type(reach, out, levels, true) {
+        if self.filter_type(out, levels, true) {
             take_back(out, put, front);
         } else {
-            *reach = from;
+            *self = from;
             out.written = put;
-            self.filter_leaf(reach, out, walk::skip_type(self.sheet, body, levels));
+            self.filter_leaf(out, walk::skip_type(self.sheet, body, levels));
         }
     }
 
@@ -84,109 +80,91 @@ impl Sieve<'_> {
     // and what is kept of it is put. Else its field is a leaf itself, and the walk is to begin there again. "One Dictionary or RunEndEncoded
     // is looked through, not two": `through` says that none was yet.
     #[cycle(filtering)]
-    fn filter_type(
-        &self,
-        reach: &mut Reach,
-        out: &mut Output<'_>,
-        levels: usize,
-        through: bool,
-    ) -> bool
-        ensures { FiltersType self.now.sheet.now self.now.mask.now levels through (reached reach.old out.old) (reached reach.new out.new) result }
+    fn filter_type(&mut self, out: &mut Output<'_>, levels: usize, through: bool) -> bool
+        ensures { FiltersType levels through (reached self.old out.old) (reached self.new out.new) result }
     {
         if levels == 0 {
             return false;
         }
-        let code = walk::byte(self.sheet, reach.at);
+        let code = walk::byte(self.sheet, self.at);
         if walk::holds_fields(code) {
-            self.filter_nested(reach, out, code, levels - 1);
+            self.filter_nested(out, code, levels - 1);
             return true;
         }
         if !through {
             return false;
         }
-        self.filter_encoded(reach, out, code, levels - 1)
+        self.filter_encoded(out, code, levels - 1)
     }
 
     // A Dictionary or RunEndEncoded is what the type of its second child is. All others have no leaf below them.
     #[cycle(filtering)]
-    fn filter_encoded(
-        &self,
-        reach: &mut Reach,
-        out: &mut Output<'_>,
-        code: usize,
-        levels: usize,
-    ) -> bool
-        ensures { FiltersEncoded self.now.sheet.now self.now.mask.now code levels (reached reach.old out.old) (reached reach.new out.new) result }
+    fn filter_encoded(&mut self, out: &mut Output<'_>, code: usize, levels: usize) -> bool
+        ensures { FiltersEncoded code levels (reached self.old out.old) (reached self.new out.new) result }
     {
-        let first = walk::ahead(self.sheet, reach.at, 1);
+        let first = walk::ahead(self.sheet, self.at, 1);
         if code == DICTIONARY {
             let value = walk::skip_type(self.sheet, first, levels);
-            return self.filter_inner(reach, out, value, levels);
+            return self.filter_inner(out, value, levels);
         }
         if code == RUN_END_ENCODED {
             let values = walk::skip_field(self.sheet, first, levels);
             let body = walk::skip_head(self.sheet, values);
-            return self.filter_inner(reach, out, body, levels);
+            return self.filter_inner(out, body, levels);
         }
         false
     }
 
     // The type that stands at a place, and what stands before it, which is kept with it.
     #[cycle(filtering)]
-    fn filter_inner(
-        &self,
-        reach: &mut Reach,
-        out: &mut Output<'_>,
-        inner: usize,
-        levels: usize,
-    ) -> bool
-        ensures { FiltersInner self.now.sheet.now self.now.mask.now inner levels (reached reach.old out.old) (reached reach.new out.new) result }
+    fn filter_inner(&mut self, out: &mut Output<'_>, inner: usize, levels: usize) -> bool
+        ensures { FiltersInner inner levels (reached self.old out.old) (reached self.new out.new) result }
     {
         let put = out.written;
-        self.copy_to(reach, out, inner);
+        self.copy_to(out, inner);
         let front = out.written;
-        let nested = self.filter_type(reach, out, levels, false);
+        let nested = self.filter_type(out, levels, false);
         take_back(out, put, front);
         nested
     }
 
     // A type that holds fields: its code and parameters, and what is left of its children.
     #[cycle(filtering)]
-    fn filter_nested(&self, reach: &mut Reach, out: &mut Output<'_>, code: usize, levels: usize)
-        ensures { FiltersNested self.now.sheet.now self.now.mask.now code levels (reached reach.old out.old) (reached reach.new out.new) }
+    fn filter_nested(&mut self, out: &mut Output<'_>, code: usize, levels: usize)
+        ensures { FiltersNested code levels (reached self.old out.old) (reached self.new out.new) }
     {
         let put = out.written;
-        let params = walk::ahead(self.sheet, reach.at, 1);
+        let params = walk::ahead(self.sheet, self.at, 1);
         let children = walk::skip_params(self.sheet, params, code);
-        self.copy_to(reach, out, children);
+        self.copy_to(out, children);
         let front = out.written;
-        self.filter_children(reach, out, code, levels);
+        self.filter_children(out, code, levels);
         take_back(out, put, front);
     }
 
     // The children of such a type. One that is no Struct and no Union has one field.
     #[cycle(filtering)]
-    fn filter_children(&self, reach: &mut Reach, out: &mut Output<'_>, code: usize, levels: usize)
-        ensures { FiltersChildren self.now.sheet.now self.now.mask.now code levels (reached reach.old out.old) (reached reach.new out.new) }
+    fn filter_children(&mut self, out: &mut Output<'_>, code: usize, levels: usize)
+        ensures { FiltersChildren code levels (reached self.old out.old) (reached self.new out.new) }
     {
         match code {
-            STRUCT => self.filter_counted(reach, out, 0, levels),
-            UNION => self.filter_counted(reach, out, 1, levels),
-            _ => self.filter_field(reach, out, levels),
+            STRUCT => self.filter_counted(out, 0, levels),
+            UNION => self.filter_counted(out, 1, levels),
+            _ => self.filter_field(out, levels),
         }
     }
 
     // A count, and as many children with so many bytes before each. How many are kept is known at the end, and put over the two bytes that
     // were held for it. Where none is, these are taken back.
     #[cycle(filtering)]
-    fn filter_counted(&self, reach: &mut Reach, out: &mut Output<'_>, before: usize, levels: usize)
-        ensures { FiltersCounted self.now.sheet.now self.now.mask.now before levels (reached reach.old out.old) (reached reach.new out.new) }
+    fn filter_counted(&mut self, out: &mut Output<'_>, before: usize, levels: usize)
+        ensures { FiltersCounted before levels (reached self.old out.old) (reached self.new out.new) }
     {
         let held = out.written;
         out.put_two(0);
-        let children = Elements::counted(self.sheet, reach.at);
-        reach.at = children.at;
-        let kept = self.filter_row(reach, out, children.count, before, levels);
+        let children = Elements::counted(self.sheet, self.at);
+        self.at = children.at;
+        let kept = self.filter_row(out, children.count, before, levels);
         let end = out.written;
         out.written = held;
         if kept != 0 {
@@ -198,19 +176,18 @@ impl Sieve<'_> {
     // So many children, one behind the other, and how many of them are kept: those that something was put of.
     #[cycle(filtering)]
     fn filter_row(
-        &self,
-        reach: &mut Reach,
+        &mut self,
         out: &mut Output<'_>,
         count: usize,
         before: usize,
         levels: usize,
     ) -> usize
-        ensures { FiltersRow self.now.sheet.now self.now.mask.now count before levels (reached reach.old out.old) (reached reach.new out.new) result }
+        ensures { FiltersRow count before levels (reached self.old out.old) (reached self.new out.new) result }
     {
         let mut kept = 0;
         for _ in 0..count {
             let put = out.written;
-            self.filter_child(reach, out, before, levels);
+            self.filter_child(out, before, levels);
             kept += usize::from(out.written != put);
         }
         kept
@@ -218,23 +195,23 @@ impl Sieve<'_> {
 
     // A child with so many bytes before it: a union's child has its id there, others nothing.
     #[cycle(filtering)]
-    fn filter_child(&self, reach: &mut Reach, out: &mut Output<'_>, before: usize, levels: usize)
-        ensures { FiltersChild self.now.sheet.now self.now.mask.now before levels (reached reach.old out.old) (reached reach.new out.new) }
+    fn filter_child(&mut self, out: &mut Output<'_>, before: usize, levels: usize)
+        ensures { FiltersChild before levels (reached self.old out.old) (reached self.new out.new) }
     {
         let put = out.written;
-        let field = walk::ahead(self.sheet, reach.at, before);
-        self.copy_to(reach, out, field);
+        let field = walk::ahead(self.sheet, self.at, before);
+        self.copy_to(out, field);
         let front = out.written;
-        self.filter_field(reach, out, levels);
+        self.filter_field(out, levels);
         take_back(out, put, front);
     }
 
     // The columns behind their count. Where none is kept, the map at the start of what was put loses its bit.
-    fn filter_columns(&self, reach: &mut Reach, out: &mut Output<'_>)
-        ensures { FiltersColumns self.now.sheet.now self.now.mask.now (reached reach.old out.old) (reached reach.new out.new) }
+    fn filter_columns(&mut self, out: &mut Output<'_>)
+        ensures { FiltersColumns (reached self.old out.old) (reached self.new out.new) }
     {
         let put = out.written;
-        self.filter_counted(reach, out, 0, Cursor::LEVELS);
+        self.filter_counted(out, 0, Cursor::LEVELS);
         if out.written == put {
             let map = walk::byte(self.sheet, 0) % 2;
             out.written = 0;
@@ -244,13 +221,13 @@ impl Sieve<'_> {
     }
 
     // The sheet: the map, the schema's metadata as it is, and what is left of the columns.
-    fn filter_sheet(&self, reach: &mut Reach, out: &mut Output<'_>)
-        ensures { FiltersSheet self.now.sheet.now self.now.mask.now (reached reach.old out.old) (reached reach.new out.new) }
+    fn filter_sheet(&mut self, out: &mut Output<'_>)
+        ensures { FiltersSheet (reached self.old out.old) (reached self.new out.new) }
     {
         let columns = walk::skip_sheet_head(self.sheet, 0);
-        self.copy_to(reach, out, columns);
+        self.copy_to(out, columns);
         if walk::bit(walk::byte(self.sheet, 0), 1) {
-            self.filter_columns(reach, out);
+            self.filter_columns(out);
         }
     }
 }
@@ -268,11 +245,16 @@ pub fn filter(
     match sheet::read_sheet(sheet) {
         Err(refusal) => buffer::refuse(work, refusal),
         Ok(_) => {
-            let mut reach = Reach { at: 0, leaf: 0 };
+            let mut sieve = Sieve {
+                sheet,
+                mask,
+                at: 0,
+                leaf: 0,
+            };
             let mut out = Output::new(work);
-            Sieve { sheet, mask }.filter_sheet(&mut reach, &mut out);
+            sieve.filter_sheet(&mut out);
             let written = out.written;
-            if reach.leaf != mask.len() {
+            if sieve.leaf != mask.len() {
                 return buffer::refuse(work, Refusal::from(Number::MaskLength));
             }
             let answered = buffer::write_answer(answer, &work[..written]);

@@ -7,10 +7,10 @@ use Rattle.filter.proofs.Answered.{filter_refused, end_inside, call_mask, call_f
 use borrow.Author.Rules.{rules}
 use Rattle.filter.proofs.filter.Goals as goal
 
-pub returns-then-reach-mask : goal.returns-then-reach-mask
-returns-then-reach-mask c =
+pub returns-then-sieve-mask : goal.returns-then-sieve-mask
+returns-then-sieve-mask c =
     call_mask _ c.read_sheet.ensures (λ k. (c.type_inv.sheet k).fits) c.in-Ok.is c.work_fits.ensures c.in_ok-work_fits.was c.new-out.ensures.1 c.new-out.ensures.2 c.filter_sheet.ensures (λ e. search rules)
-    _ c.if-reach-mask.true (c.refuse-then-reach-mask.ensures.0 ∙ ap Err c.from.ensures) (search rules) c.refuse-then-reach-mask.ensures.1
+    _ c.if-sieve-mask.true (c.refuse-then-sieve-mask.ensures.0 ∙ ap Err c.from.ensures) (search rules) c.refuse-then-sieve-mask.ensures.1
 
 pub slice_bounds-write_answer-end : goal.slice_bounds-write_answer-end
 slice_bounds-write_answer-end c =
@@ -20,10 +20,10 @@ pub returns-in-Err : goal.returns-in-Err
 returns-in-Err c =
     call_refused _ _ _ _ c.work_fits.ensures c.in_ok-work_fits.was (filter_refused _ _ c.read_sheet.ensures c.in-Err.is) c.refuse.ensures.0 c.refuse.ensures.1
 
-pub returns-else-reach-mask : goal.returns-else-reach-mask
-returns-else-reach-mask c =
+pub returns-else-sieve-mask : goal.returns-else-sieve-mask
+returns-else-sieve-mask c =
     call_filtered _ c.read_sheet.ensures (λ k. (c.type_inv.sheet k).fits) c.in-Ok.is c.work_fits.ensures c.in_ok-work_fits.was c.new-out.ensures.1 c.new-out.ensures.2 c.filter_sheet.ensures (λ e. search rules)
-    _ _ _ c.if-reach-mask.false c.write_answer-answered.ensures (search rules) c.clear.ensures
+    _ _ _ c.if-sieve-mask.false c.write_answer-answered.ensures (search rules) c.clear.ensures
 
 pub returns-in_err-work_fits : goal.returns-in_err-work_fits
 returns-in_err-work_fits c = call_short _ _ _ _ c.work_fits.ensures c.in_err-work_fits.was (handed_up _ c.from_residual.ensures.1)

@@ -38,4 +38,4 @@ decreases-filter_type l = 8 * l.levels + 0
 abbrev pub invariant-filter_row-loop : goal.invariant-filter_row-loop
 invariant-filter_row-loop v =
     (v.kept ≤ v.counter)
-    × ((l : ℕ) (front : Head → Bytes) → ((h : Head) → length (front h) ≡ v.before) → l ≤ v.levels → Turns l front v.self.sheet.now v.self.mask.now v.count (reached v.initial.reach v.initial.out) (v.count - v.counter) (reached v.reach v.out) v.kept)
+    × ((l : ℕ) (front : Head → Bytes) → ((h : Head) → length (front h) ≡ v.before) → l ≤ v.levels → Turns l front v.count (reached v.initial.self v.initial.out) (v.count - v.counter) (reached v.self v.out) v.kept)
