@@ -25,7 +25,7 @@ use Rattle.buffer.specs.Refusals.{number_of, numbered, without_place}
 use Rattle.buffer.proofs.Room.{room_enough}
 use Rattle.buffer.proofs.Ends.{call_refused, call_written}
 use Rattle.buffer.specs.declared.Output.{Output}
-use Rattle.filter.specs.Filters.{Walk, Begins, Kept, FiltersSheet, filtered, start}
+use Rattle.filter.specs.Filters.{Walk, Kept, FiltersSheet, filtered, start}
 
 abbrev pub answered : Bytes → Schema → Answer
 answered mask x = sheet_answer (filter_leaves x mask)

@@ -21,7 +21,7 @@ use Rattle.walk.proofs.Standing.{skip_ahead, skip_join}
 use Rattle.walk.proofs.Parts.{Ahead}
 use Rattle.walk.proofs.Descents.{type_stands}
 use Rattle.buffer.specs.declared.Output.{Output}
-use Rattle.filter.specs.Filters.{Walk, walk_to, Begins, Filters, CopiesTo, taken_back, undone, FiltersLeaf, first_bytes, alone, below, TypeSifted, FieldFiltered, ChildFiltered, FiltersType, FiltersField, FiltersChild, child_bytes, kept_of}
+use Rattle.filter.specs.Filters.{Walk, walk_to, Begins, Filters, CopiesTo, taken_back, undone, FiltersLeaf, first_bytes, alone, below, TypeSifted, FieldFiltered, FiltersType, FiltersField, FiltersChild, child_bytes, kept_of}
 use Rattle.filter.proofs.Walking.{filters_when, filters_as, filters_copied, filters_join, filters_fronted, filters_undone}
 
 -- Bytes that are not none
@@ -165,7 +165,7 @@ module _ {v : Walk} {body : ℕ} (levels : ℕ) {v₁ v₂ : Walk} {r : Bool} (s
           filters_as refl (sym (ap field_leaf_count b))
           (leaf_bytes (field_bytes (type_bytes l)) f v.mask v.leaf ∙ sym (ap (λ y. each (field_bytes (type_bytes l)) (filter_to f (drop v.leaf v.mask) y).kept) a))
           (filters_join (filters_undone (head_bytes f.head) (type_bytes l f.data_type) v₂.out st (filters_copied (head_bytes f.head) (skip f.head) copy) d)
-          λ q. i (field_bytes (type_bytes l) f) (field_some (type_bytes l) f) (skip_join (skip f.head) (types l f.data_type h z)))
+          (i (field_bytes (type_bytes l) f) (field_some (type_bytes l) f) (skip_join (skip f.head) (types l f.data_type h z))))
       go st (below ts rest n a b c d) = absurd (false≢true (sym e ∙ c))
 
 -- Children

@@ -19,16 +19,16 @@ use Rattle.model.specs.Filter.{filter_each, filter_field, filter_type, leaf_coun
 use Rattle.model.proofs.Lists.{each_append}
 use Rattle.model.proofs.Size.{length_with_count}
 use Rattle.model.proofs.LeafCount.{type_takes, field_mask}
-use Rattle.walk.specs.Stands.{Stands, Skips, AllLaidOut}
-use Rattle.walk.proofs.Standing.{first_stands, stands_behind}
+use Rattle.walk.specs.Stands.{Stands, AllLaidOut}
+use Rattle.walk.proofs.Standing.{first_stands}
 use Rattle.walk.proofs.Parts.{Ahead, two_at}
 use Rattle.walk.proofs.Descents.{count_stands, elements_stand}
 use Rattle.buffer.specs.declared.Output.{Output}
 use Rattle.buffer.specs.Puts.{Puts}
 use Rattle.buffer.proofs.Puts.{two_bytes_lem}
-use Rattle.filter.specs.Filters.{Walk, walk_to, Begins, Fair, Passed, FiltersEach, ChildFiltered, ChildrenFiltered, CountedFiltered, FiltersRow, FiltersCounted, child_bytes, leaves_of, leaves_of_all, kept_of, kept_of_all, back_to}
+use Rattle.filter.specs.Filters.{Walk, walk_to, Begins, Fair, Passed, FiltersEach, ChildFiltered, ChildrenFiltered, FiltersRow, FiltersCounted, child_bytes, leaves_of, leaves_of_all, kept_of, kept_of_all, back_to}
 use Rattle.filter.proofs.Walking.{stands_on, begins_shorter, begins_put, begins_over}
-use Rattle.filter.proofs.Fields.{part_some, field_some, KeptOne, none, one, field_one}
+use Rattle.filter.proofs.Fields.{field_some, KeptOne, none, one, field_one}
 
 -- one more where the position moved, else none
 pub kept_more : (moved : Bool) {more : ℕ} → more ≡ from_bool (not moved) → (more ≡ choose moved (λ u. 0) λ u. 1) × (more ≤ 1)

@@ -12,7 +12,7 @@ use Rattle.model.specs.Sheet.{part, stands, with_count, pair_bytes, column_bytes
 use Rattle.model.specs.Filter.{filter_each, leaf_count_of_each, leaf_count, filter_columns}
 use Rattle.model.proofs.Size.{length_with_count}
 use Rattle.model.proofs.WellFormed.{columns_laid_out}
-use Rattle.walk.specs.Stands.{Stands, Skips, AllLaidOut, SkipsSheetHead, sheet_head}
+use Rattle.walk.specs.Stands.{Stands, AllLaidOut, SkipsSheetHead, sheet_head}
 use Rattle.walk.proofs.Standing.{whole_stands, first_stands, byte_stands, stands_behind}
 use Rattle.walk.proofs.Schemas.{columns_bit}
 use Rattle.buffer.specs.declared.Output.{Output}

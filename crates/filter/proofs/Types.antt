@@ -1,10 +1,10 @@
 -- Types and their children: what is kept of each, from what the code's steps keep.
-use Prim.Native.Nat.{ℕ, zero, suc, ◌+◌, ◌-◌, ◌≤◌}
+use Prim.Native.Nat.{ℕ, zero, suc, ◌-◌, ◌≤◌}
 use native.Mathlib.Omega.{arith}
 use native.Mathlib.Nat.{add-zero}
 use mathlib.Core.Path.{◌≡◌, refl, sym, ap, subst, ◌∙◌}
 use mathlib.Core.List.{List, [], ◌∷◌, ◌++◌, append-nil, append_assoc}
-use mathlib.Core.Bool.{Bool, true, false, false≢true, ◌&&◌, ◌||◌}
+use mathlib.Core.Bool.{Bool, true, false, ◌&&◌, ◌||◌}
 use lib.ListN.{length, drop, get_or, length-append}
 use lib.Dec.{eqb}
 use borrow.Author.Tests.{ne_eqb}
@@ -21,7 +21,7 @@ use Rattle.walk.proofs.Standing.{first_stands, second_stands, skip_ahead, skip_j
 use Rattle.walk.proofs.Parts.{Ahead}
 use Rattle.walk.proofs.Descents.{code_stands}
 use Rattle.buffer.specs.declared.Output.{Output}
-use Rattle.filter.specs.Filters.{Walk, walk_to, Filters, CopiesTo, taken_back, undone, first_bytes, Sifts, alone, below, TypeSifted, InnerSifted, KindFiltered, HolderFiltered, FiltersType, FiltersField, FiltersCounted, FiltersChildren, FiltersNested, FiltersInner, FiltersEncoded, leaves_of, leaves_of_all, kept_of, kept_of_all}
+use Rattle.filter.specs.Filters.{Walk, walk_to, Filters, CopiesTo, taken_back, undone, first_bytes, Sifts, alone, below, TypeSifted, InnerSifted, KindFiltered, FiltersType, FiltersField, FiltersCounted, FiltersChildren, FiltersNested, FiltersInner, FiltersEncoded, leaves_of, leaves_of_all, kept_of, kept_of_all}
 use Rattle.filter.proofs.Walking.{filters_none, filters_as, filters_copied, filters_fronted, filters_undone}
 use Rattle.filter.proofs.Fields.{part_some, type_some, field_some}
 

@@ -117,13 +117,12 @@ module _ {v : Walk} where
   pub stands_on : {a : Bytes} (b : Bytes) {n : ℕ} {k x : Bytes} {v' : Walk} → Passed a n k v x v' → Stands v.sheet v.at (a ++ b) → Stands v'.sheet v'.at b
   stands_on b {v' = v'} d st = subst (λ s. Stands s v'.at b) (sym d.sheet) (stands_behind (record { behind = λ u. d.behind }) st)
 
-  -- one part, then another, of which something is known once the leaves of the first are counted
-  pub filters_join : {a b : Bytes} {n n' : ℕ} {k k' : Bytes} {v₁ v₂ : Walk} → Filters a n k v v₁ → (v₁.leaf ≡ v.leaf + n → Filters b n' k' v₁ v₂)
-      → Filters (a ++ b) (n + n') (k ++ k') v v₂
+  -- one part, then another
+  pub filters_join : {a b : Bytes} {n n' : ℕ} {k k' : Bytes} {v₁ v₂ : Walk} → Filters a n k v v₁ → Filters b n' k' v₁ v₂ → Filters (a ++ b) (n + n') (k ++ k') v v₂
   filters_join {a} {b} {n} {n'} {k} {k'} {v₁} {v₂} f h = record {
     does = λ x st fair g.
         let d = f.does x (first_stands a b st) fair g in
-        let e = (h d.leaves).does (x ++ k) (stands_on b d st) d.fair d.begins in
+        let e = h.does (x ++ k) (stands_on b d st) d.fair d.begins in
         record {
           sheet = e.sheet ∙ d.sheet;
           mask = e.mask ∙ d.mask;

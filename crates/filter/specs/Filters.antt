@@ -1,5 +1,5 @@
 -- Going over bytes of a sheet and putting what the filter keeps of them. A walk stands at a place of the sheet and at a leaf, counted from 0
--- in the order of the mask's bytes; what it kept so far is an output.
+-- in the order of the mask's bytes; what it kept so far stands in an output.
 use Rattle.std.specs.Prelude.{ℕ, suc, ◌+◌, ◌%◌, ◌≤◌, ◌≡◌, List, [], ◌∷◌, ◌++◌, Bool, true, false, length, drop, get_or, eqb}
 use Rattle.model.specs.Numbers.{max_levels, max_sheet_bytes}
 use Rattle.model.specs.Bytes.{Bytes, choose}
@@ -19,7 +19,7 @@ pub record Begins (o : Output) (x : Bytes) : Type 0 where
   pub rest : Bytes
   pub bytes : o.buffer.now ≡ x ++ rest
 
--- the sheet and the mask, how far a walk came, and what it kept
+-- a sheet and a mask, how far a walk came, and what it kept
 pub record Walk : Type 0 where
   pub sheet : Bytes
   pub mask : Bytes
@@ -65,7 +65,7 @@ pub record CopiesTo (to : ℕ) (v v' : Walk) : Type 0 where
 abbrev pub back_to : ℕ → Output → Output
 back_to p o = record { buffer = o.buffer; written = p }
 
--- so it is with what was put up to a position, where nothing was put behind that
+-- what was put from one position to another is taken back where nothing was put behind it
 abbrev pub taken_back : (put front : ℕ) → Output → Output
 taken_back put front o = back_to (choose (eqb o.written front) (λ u. put) λ u. o.written) o
 

@@ -13,8 +13,8 @@ use layout::{DICTIONARY, RUN_END_ENCODED, STRUCT, UNION};
 use sheet::Cursor;
 use walk::Elements;
 
-// What stands before a part was put behind so many bytes, up to a position. Where nothing was put behind that, it is taken back: "A nested
-// type with no leaf left vanishes."
+// What stands before a part was put from `put` to `front`. Where nothing was put behind it, it is taken back: "A nested type with no leaf
+// left vanishes."
 #[tactic(auto, unfolding(model::specs::Bytes::choose))]
 fn take_back(out: &mut Output<'_>, put: usize, front: usize)
     ensures { out.new ≡ taken_back put front out.old }
@@ -24,8 +24,8 @@ fn take_back(out: &mut Output<'_>, put: usize, front: usize)
     }
 }
 
-// What is filtered, a sheet, and by what: a mask, whose bytes are those of the leaves. It is gone over up to a place, and `leaf` is the number
-// of the next leaf there.
+// What is filtered, a sheet, and by what: a mask, whose bytes are those of the leaves. And how far it was gone over: the place in the sheet,
+// and the number of the next leaf.
 #[derive(Clone, Copy)]
 struct Sieve<'a> {
     sheet: &'a [u8],
@@ -76,9 +76,9 @@ impl Sieve<'_> {
         }
     }
 
-    // `filter_field`, its matches on the type, of at most so many levels. Where it has a leaf below it, or may have one, the type is gone over
-    // and what is kept of it is put. Else its field is a leaf itself, and the walk is to begin there again. "One Dictionary or RunEndEncoded
-    // is looked through, not two": `through` says that none was yet.
+    // `filter_field`, its matches on the type, of at most so many levels: whether it was gone over, and what is kept of it put. Where it was
+    // not, it has no leaf below it, so that its field is one itself, and is to be gone over anew. "One Dictionary or RunEndEncoded is looked
+    // through, not two": `through` says that none was yet.
     #[cycle(filtering)]
     fn filter_type(&mut self, out: &mut Output<'_>, levels: usize, through: bool) -> bool
         ensures { FiltersType levels through (reached self.old out.old) (reached self.new out.new) result }

@@ -1,11 +1,9 @@
 -- Fields, types and their children. The levels left fall from a type to its children, and each function calls on one that stands before it at equal levels.
 use native.Mathlib.Omega.{arith}
 use native.Mathlib.Nat.{sub-zero}
-use mathlib.Core.Path.{refl}
 use Rattle.filter.proofs.Fields.{field_nested, field_leaf, child_filtered}
 use Rattle.filter.proofs.Rows.{kept_more, turns_begin, turns_again, turns_done, counted_none, counted_some}
-use Rattle.filter.proofs.Types.{struct_filtered, union_filtered, others_filtered, nested_filtered, inner_filtered, dictionary_filtered, runs_filtered, others_encoded, no_level, type_held, type_leaf, type_encoded}
-use borrow.Author.Rules.{rules}
+use Rattle.filter.proofs.Types.{struct_filtered, union_filtered, others_filtered, nested_filtered, inner_filtered, dictionary_filtered, runs_filtered, others_encoded, type_held, type_leaf, type_encoded}
 use Rattle.filter.proofs.Sieve.+filtering.Goals as goal
 
 pub filter_child-returns : goal.filter_child-returns
