@@ -231,36 +231,30 @@ module _ (code levels : ℕ) {v : Walk} where
       let q = plain l t (drop v.leaf v.mask) (sym (ap holds_fields d) ∙ n) true e in
       alone q.0 q.1 refl filters_none
 
-module _ (levels : ℕ) (through : Bool) {v : Walk} where
-  -- no type is of no level
-  pub no_level : levels ≤ 0 → FiltersType levels through v v false
-  no_level h zero t k z st = absurd z
-  no_level h (suc l) t k z st = absurd (omega (arith, h, k))
+module _ (levels : ℕ) (through : Bool) {v : Walk} {code : ℕ} {test : Bool} (e : code ≡ get_or v.sheet v.at 0) (i : test ≡ holds_fields code) where
+  pub type_held : {v' : Walk} → test ≡ true → FiltersNested code (levels - 1) v v'
+      → FiltersType levels through v v' true
+  type_held h g zero t k z st = absurd z
+  type_held {v'} h g (suc l) t k z st =
+      let c : code ≡ t.code = e ∙ code_stands l t st in
+      let d : holds_fields code ≡ true = sym i ∙ h in
+      let left = filter_each (filter_field (λ x m. filter_type l true x m)) t.children (drop v.leaf v.mask) in
+      let q = held_type l t (drop v.leaf v.mask) through (sym (ap holds_fields c) ∙ d) in
+      below (choose (eqb (length left.kept) 0) (λ u. []) λ u. with_children t left.kept ∷ []) left.mask (leaves_of_all l t.children) q.0 q.1 refl
+      (filters_as refl refl (held_kept l t left.kept) (g l t (omega arith) c d z))
 
-  module _ {code : ℕ} {test : Bool} (e : code ≡ get_or v.sheet v.at 0) (i : test ≡ holds_fields code) where
-    pub type_held : {v' : Walk} → test ≡ true → FiltersNested code (levels - 1) v v'
-        → FiltersType levels through v v' true
-    type_held h g zero t k z st = absurd z
-    type_held {v'} h g (suc l) t k z st =
-        let c : code ≡ t.code = e ∙ code_stands l t st in
-        let d : holds_fields code ≡ true = sym i ∙ h in
-        let left = filter_each (filter_field (λ x m. filter_type l true x m)) t.children (drop v.leaf v.mask) in
-        let q = held_type l t (drop v.leaf v.mask) through (sym (ap holds_fields c) ∙ d) in
-        below (choose (eqb (length left.kept) 0) (λ u. []) λ u. with_children t left.kept ∷ []) left.mask (leaves_of_all l t.children) q.0 q.1 refl
-        (filters_as refl refl (held_kept l t left.kept) (g l t (omega arith) c d z))
+  -- one was looked through before, and this type holds no fields
+  pub type_leaf : test ≡ false → through ≡ false → FiltersType levels through v v false
+  type_leaf h j zero t k z st = absurd z
+  type_leaf h j (suc l) t k z st =
+      let c : code ≡ t.code = e ∙ code_stands l t st in
+      let q = plain l t (drop v.leaf v.mask) (sym (ap holds_fields c) ∙ sym i ∙ h) through (ap (λ b. b && encodes t.code) j) in
+      alone q.0 q.1 refl filters_none
 
-    -- one was looked through before, and this type holds no fields
-    pub type_leaf : test ≡ false → through ≡ false → FiltersType levels through v v false
-    type_leaf h j zero t k z st = absurd z
-    type_leaf h j (suc l) t k z st =
-        let c : code ≡ t.code = e ∙ code_stands l t st in
-        let q = plain l t (drop v.leaf v.mask) (sym (ap holds_fields c) ∙ sym i ∙ h) through (ap (λ b. b && encodes t.code) j) in
-        alone q.0 q.1 refl filters_none
-
-    pub type_encoded : {v' : Walk} {r : Bool} → test ≡ false → through ≡ true → FiltersEncoded code (levels - 1) v v' r
-        → FiltersType levels through v v' r
-    type_encoded h j g zero t k z st = absurd z
-    type_encoded {v'} {r} h j g (suc l) t k z st =
-        let c : code ≡ t.code = e ∙ code_stands l t st in
-        subst (λ b. TypeSifted (suc l) b t v v' r) (sym j)
-        (g l t (omega arith) c (sym i ∙ h) z st)
+  pub type_encoded : {v' : Walk} {r : Bool} → test ≡ false → through ≡ true → FiltersEncoded code (levels - 1) v v' r
+      → FiltersType levels through v v' r
+  type_encoded h j g zero t k z st = absurd z
+  type_encoded {v'} {r} h j g (suc l) t k z st =
+      let c : code ≡ t.code = e ∙ code_stands l t st in
+      subst (λ b. TypeSifted (suc l) b t v v' r) (sym j)
+      (g l t (omega arith) c (sym i ∙ h) z st)
