@@ -4,10 +4,9 @@ use native.Mathlib.Omega.{arith}
 use native.Mathlib.Nat.{add-zero}
 use mathlib.Core.Path.{◌≡◌, refl, sym, ap, subst, ◌∙◌}
 use mathlib.Core.List.{List, [], ◌∷◌, ◌++◌, append-nil}
-use mathlib.Core.Bool.{Bool, true, false}
+use mathlib.Core.Bool.{Bool, true, false, false≢true}
 use lib.ListN.{length, drop, get_or}
 use lib.Seq.{get_or-drop}
-use Rattle.std.specs.Prelude.{Option, None, Some}
 use lib.Dec.{eqb}
 use borrow.Author.Tests.{eqb-true}
 use Rattle.model.specs.Numbers.{max_sheet_bytes}
@@ -15,14 +14,14 @@ use Rattle.model.specs.Bytes.{Bytes, choose}
 use Rattle.model.specs.Tree.{Head, FieldOver, DataType, Field}
 use Rattle.model.specs.Sheet.{front_bytes, each, part, head_bytes, field_bytes, type_bytes}
 use Rattle.model.specs.Filter.{Filtered, leaf, nested, filter_leaf, filter_to, filter_field, filter_type, field_leaf_count}
+use Rattle.model.specs.WellFormed.{LaidOut}
 use Rattle.model.proofs.Gives.{choose_true, choose_false}
 use Rattle.walk.specs.Stands.{Stands, Skips, SkipsType}
 use Rattle.walk.proofs.Standing.{skip_ahead, skip_join}
 use Rattle.walk.proofs.Parts.{Ahead}
 use Rattle.walk.proofs.Descents.{type_stands}
-use Rattle.buffer.specs.Puts.{Puts}
-use Rattle.filter.specs.declared.Reach.{Reach}
-use Rattle.filter.specs.Filters.{Begins, Filters, FiltersTo, CopiesTo, FiltersLeaf, first_bytes, alone, below, unless_nothing, TypeSifted, FieldFiltered, ChildFiltered, FiltersType, FiltersField, FiltersChild, child_bytes, kept_of}
+use Rattle.buffer.specs.declared.Output.{Output}
+use Rattle.filter.specs.Filters.{Walk, walk_to, Begins, Filters, CopiesTo, taken_back, undone, FiltersLeaf, first_bytes, alone, below, TypeSifted, FieldFiltered, FiltersType, FiltersField, FiltersChild, child_bytes, kept_of}
 use Rattle.filter.proofs.Walking.{filters_when, filters_as, filters_copied, filters_join, filters_fronted, filters_undone}
 
 -- Bytes that are not none
@@ -82,53 +81,54 @@ leaf_bytes f x mask next =
     go [] = refl
     go (b ∷ m) = one (eqb b 0)
 
-module _ {s : Bytes} {place next end after : ℕ} (f : next < max_sheet_bytes → after ≡ next + 1) where
+module _ {v : Walk} {end after : ℕ} (f : v.leaf < max_sheet_bytes → after ≡ v.leaf + 1) (m : ℕ) {byte : ℕ} (d : byte ≡ m) where
   -- a leaf that is not kept
-  pub leaf_dropped : (v : ℕ) {byte : ℕ} {w : Bytes} {p : ℕ} → byte ≡ v → byte ≡ 0 → (b : Bytes) → 1 ≤ length b → Skips s place b end
-      → Filters s b 1 (choose (eqb v 0) (λ u. []) λ u. b) place next w p end after w p
+  pub leaf_dropped : byte ≡ 0 → (b : Bytes) → 1 ≤ length b → Skips v.sheet v.at b end → Filters b 1 (choose (eqb m 0) (λ u. []) λ u. b) v (record { sheet = v.sheet; mask = v.mask; at = end; leaf = after; out = v.out })
   unfolding choose
-  leaf_dropped v {byte} {w} {p} d e b n skip =
-      filters_as refl refl (sym (ap (λ v. choose (eqb v 0) (λ u. []) λ u. b) (sym d ∙ e)))
+  leaf_dropped e b n skip =
+      filters_as refl refl (sym (ap (λ m. choose (eqb m 0) (λ u. []) λ u. b) (sym d ∙ e)))
       (record {
         does = λ x st h g.
             let i = skip.behind st in
             let j = f (omega (arith, h.leaves, h.small, st.inside, n)) in
             record {
+              sheet = refl;
+              mask = refl;
               behind = i;
               leaves = j;
+              same_buffer = refl;
               fair = record { small = h.small; room = h.room; leaves = omega (arith, h.leaves, i, j, n); written = omega (arith, h.written, i) };
-              begins = subst (Begins w p) (sym (append-nil x)) g;
+              begins = subst (Begins v.out) (sym (append-nil x)) g;
             };
       })
 
   -- a leaf that is copied
-  pub leaf_kept : (v : ℕ) {byte : ℕ} {w : Bytes} {p : ℕ} {w' : Bytes} {r : Reach} → byte ≡ v → (byte ≡ 0 → ⊥) → CopiesTo s (record { at = place; leaf = after; written = p }) end w w' r
-      → (b : Bytes) → 1 ≤ length b → Skips s place b end → FiltersTo s b 1 (choose (eqb v 0) (λ u. []) λ u. b) place next w p w' r
+  pub leaf_kept : {v' : Walk} → (byte ≡ 0 → ⊥) → CopiesTo end (record { sheet = v.sheet; mask = v.mask; at = v.at; leaf = after; out = v.out }) v'
+      → (b : Bytes) → 1 ≤ length b → Skips v.sheet v.at b end → Filters b 1 (choose (eqb m 0) (λ u. []) λ u. b) v v'
   unfolding choose
-  leaf_kept v {byte} {w} {p} {w'} {r} d e copy b n skip =
-      subst (FiltersTo s b 1 (choose (eqb v 0) (λ u. []) λ u. b) place next w p w') (sym copy.behind)
-      (filters_as refl refl (sym (choose_false _ _ _ (go (eqb v 0) refl)))
+  leaf_kept {v'} e copy b n skip =
+      subst (Filters b 1 (choose (eqb m 0) (λ u. []) λ u. b) v) (sym copy.behind)
+      (filters_as refl refl (sym (choose_false _ _ _ (go (eqb m 0) refl)))
       (record {
         does = λ x st h g.
             let j = f (omega (arith, h.leaves, h.small, st.inside, n)) in
-            let c = (filters_copied {next = next} b skip copy.puts).does x st h g in
+            let c = (filters_copied {v = v} b skip (record { behind = refl; puts = copy.puts })).does x st h g in
             record {
+              sheet = refl;
+              mask = refl;
               behind = c.behind;
               leaves = j;
+              same_buffer = c.same_buffer;
               fair = record { small = h.small; room = c.fair.room; leaves = omega (arith, h.leaves, c.behind, j, n); written = c.fair.written };
               begins = c.begins;
             };
       }))
     where
-      go : (t : Bool) → eqb v 0 ≡ t → eqb v 0 ≡ false
-      go true i = absurd (e (d ∙ eqb-true v 0 i))
+      go : (t : Bool) → eqb m 0 ≡ t → eqb m 0 ≡ false
+      go true i = absurd (e (d ∙ eqb-true m 0 i))
       go false i = i
 
 -- Fields
-
--- what `put_part` ensures
-abbrev pub Copies : Bytes → ℕ → ℕ → Bytes → ℕ → Bytes → ℕ → Type 0
-Copies s from end w p w' q = (b : Bytes) → Stands s from b → end ≡ from + length b → Puts b w p w' q
 
 -- the head, and what is left of the type
 nested_bytes : (l : ℕ) (f : Field l) (m : Bytes) (ts : List (DataType l)) (rest : Bytes)
@@ -138,43 +138,35 @@ nested_bytes l f m [] rest = refl
 nested_bytes l f m (t ∷ ts) rest =
     part_some (λ k. head_bytes f.head ++ k) (type_bytes l t) (type_some l t) ∙ sym (append-nil (head_bytes f.head ++ type_bytes l t))
 
-module _ {s : Bytes} {from : Reach} {body : ℕ} (levels : ℕ) (mask : Bytes) {w w₁ : Bytes} {start : Reach} {w₂ : Bytes} {r : Option Reach}
-    (skip : (h : Head) → Skips s from.at (head_bytes h) body) (copy : CopiesTo s from body w w₁ start)
-    (type : FiltersType s start.at levels true mask start.leaf w₁ start.written w₂ r) where
-  type_filtered : FiltersType s body levels true mask from.leaf w₁ start.written w₂ r
-  type_filtered = subst (λ y. FiltersType s y.at levels true mask y.leaf w₁ y.written w₂ r) copy.behind type
+module _ {v : Walk} {body : ℕ} (levels : ℕ) {v₁ v₂ : Walk} {r : Bool} (skip : (h : Head) → Skips v.sheet v.at (head_bytes h) body) (copy : CopiesTo body v v₁)
+    (type : FiltersType levels true v₁ v₂ r) where
+  type_filtered : (l : ℕ) (f : Field l) → l ≤ levels → LaidOut l f.data_type → Stands v.sheet v.at (field_bytes (type_bytes l) f)
+      → TypeSifted l true f.data_type (walk_to body v v₁.out) v₂ r
+  type_filtered l f h z st = subst (λ y. FiltersType levels true y v₂ r) copy.behind type l f.data_type h z (type_stands l f skip st)
 
-  pub field_nested : {reach o : Reach} → r ≡ Some reach → o ≡ unless_nothing from.written start.written reach
-      → FiltersField s from.at levels mask from.leaf w from.written w₂ o
+  pub field_nested : {o : Output} → r ≡ true → o ≡ taken_back v.out.written v₁.out.written v₂.out → FiltersField levels v (walk_to v₂.at v₂ o)
   unfolding field_bytes filter_field field_leaf_count
-  field_nested {reach} {o} e u l f h z = filters_when λ st. go (type_filtered l f.data_type h z (type_stands l f skip st))
+  field_nested {o} e u l f h z = filters_when λ st. go (type_filtered l f h z st)
     where
-      go : TypeSifted s mask l true f.data_type body from.leaf w₁ start.written w₂ r
-          → FieldFiltered s mask l f from.at from.leaf w from.written w₂ o
-      go (alone a b c d) = let z : ◌≡◌ {A = ℕ} 0 1 = cc in absurd (omega (arith, z))
-      go (below ts rest n to a b c d) =
-          let same : to ≡ reach = cc in
-          subst (FieldFiltered s mask l f from.at from.leaf w from.written w₂)
-          (ap (unless_nothing from.written start.written) same ∙ sym u)
-          (filters_as refl (sym (ap field_leaf_count b))
-          (nested_bytes l f (drop from.leaf mask) ts rest ∙ sym (ap (λ y. each (field_bytes (type_bytes l)) (filter_to f (drop from.leaf mask) y).kept) a))
-          (filters_fronted (filters_copied (head_bytes f.head) (skip f.head) copy.puts) d))
+      go : TypeSifted l true f.data_type (walk_to body v v₁.out) v₂ r → FieldFiltered l f v (walk_to v₂.at v₂ o)
+      go (alone a b c d) = absurd (false≢true (sym c ∙ e))
+      go (below ts rest n a b c d) =
+          filters_as refl (sym (ap field_leaf_count b))
+          (nested_bytes l f (drop v.leaf v.mask) ts rest ∙ sym (ap (λ y. each (field_bytes (type_bytes l)) (filter_to f (drop v.leaf v.mask) y).kept) a))
+          (filters_fronted (filters_copied (head_bytes f.head) (skip f.head) copy) d u)
 
   -- the field is a leaf
-  pub field_leaf : {end : ℕ} {w₃ : Bytes} {o : Reach} → r ≡ None → SkipsType s body levels end → FiltersLeaf s from.at end mask from.leaf w₂ from.written w₃ o
-      → FiltersField s from.at levels mask from.leaf w from.written w₃ o
+  pub field_leaf : {end : ℕ} {v₃ : Walk} → r ≡ false → SkipsType v.sheet body levels end → FiltersLeaf end (undone v v₂.out) v₃ → FiltersField levels v v₃
   unfolding field_bytes filter_field filter_to field_leaf_count
-  field_leaf {end} {w₃} {o} e types i l f h z = filters_when λ st. go st (type_filtered l f.data_type h z (type_stands l f skip st))
+  field_leaf {end} {v₃} e types i l f h z = filters_when λ st. go st (type_filtered l f h z st)
     where
-      go : Stands s from.at (field_bytes (type_bytes l) f)
-          → TypeSifted s mask l true f.data_type body from.leaf w₁ start.written w₂ r
-          → FieldFiltered s mask l f from.at from.leaf w from.written w₃ o
+      go : Stands v.sheet v.at (field_bytes (type_bytes l) f) → TypeSifted l true f.data_type (walk_to body v v₁.out) v₂ r → FieldFiltered l f v v₃
       go st (alone a b c d) =
           filters_as refl (sym (ap field_leaf_count b))
-          (leaf_bytes (field_bytes (type_bytes l)) f mask from.leaf ∙ sym (ap (λ y. each (field_bytes (type_bytes l)) (filter_to f (drop from.leaf mask) y).kept) a))
-          (filters_join (filters_undone (head_bytes f.head) (type_bytes l f.data_type) st (filters_copied (head_bytes f.head) (skip f.head) copy.puts) d)
-          λ q. i (field_bytes (type_bytes l) f) (field_some (type_bytes l) f) (skip_join (skip f.head) (types l f.data_type h z)))
-      go st (below ts rest n to a b c d) = let z : ◌≡◌ {A = ℕ} 0 1 = cc in absurd (omega (arith, z))
+          (leaf_bytes (field_bytes (type_bytes l)) f v.mask v.leaf ∙ sym (ap (λ y. each (field_bytes (type_bytes l)) (filter_to f (drop v.leaf v.mask) y).kept) a))
+          (filters_join (filters_undone (head_bytes f.head) (type_bytes l f.data_type) v₂.out st (filters_copied (head_bytes f.head) (skip f.head) copy) d)
+          (i (field_bytes (type_bytes l) f) (field_some (type_bytes l) f) (skip_join (skip f.head) (types l f.data_type h z))))
+      go st (below ts rest n a b c d) = absurd (false≢true (sym e ∙ c))
 
 -- Children
 
@@ -185,12 +177,9 @@ child_kept l front f ks (one g h e) =
     rw (e, ← h, append-nil (field_bytes (type_bytes l) g), append-nil (front g.head ++ field_bytes (type_bytes l) g))
     (part_some (λ k. front g.head ++ k) (field_bytes (type_bytes l) g) (field_some (type_bytes l) g))
 
-module _ {s : Bytes} {from : Reach} {field : ℕ} (before levels : ℕ) (mask : Bytes) {w w₁ : Bytes} {start : Reach} {w₂ : Bytes} {reach o : Reach} where
-  pub child_filtered : Ahead s from.at before field → CopiesTo s from field w w₁ start → FiltersField s start.at levels mask start.leaf w₁ start.written w₂ reach
-      → o ≡ unless_nothing from.written start.written reach → FiltersChild s from.at before levels mask from.leaf w from.written w₂ o
+module _ {v : Walk} {field : ℕ} (before levels : ℕ) {v₁ v₂ : Walk} {o : Output} where
+  pub child_filtered : Ahead v.sheet v.at before field → CopiesTo field v v₁ → FiltersField levels v₁ v₂ → o ≡ taken_back v.out.written v₁.out.written v₂.out
+      → FiltersChild before levels v (walk_to v₂.at v₂ o)
   child_filtered a copy g u l front f n h z =
-      let filtered = subst (λ y. FiltersField s y.at levels mask y.leaf w₁ y.written w₂ reach) copy.behind g in
-      subst (ChildFiltered s mask l front f from.at from.leaf w from.written w₂)
-      (sym u)
-      (filters_as refl refl (child_kept l front f (kept_of l f (drop from.leaf mask)) (field_one (filter_type l true) f (drop from.leaf mask)))
-      (filters_fronted (filters_copied (front f.head) (skip_ahead (front f.head) (n f.head) a.1) copy.puts) (filtered l f h z)))
+      filters_as refl refl (child_kept l front f (kept_of l f (drop v.leaf v.mask)) (field_one (filter_type l true) f (drop v.leaf v.mask)))
+      (filters_fronted (filters_copied (front f.head) (skip_ahead (front f.head) (n f.head) a.1) copy) (subst (λ y. FiltersField levels y v₂) copy.behind g l f h z) u)

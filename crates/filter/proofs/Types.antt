@@ -6,7 +6,6 @@ use mathlib.Core.Path.{◌≡◌, refl, sym, ap, subst, ◌∙◌}
 use mathlib.Core.List.{List, [], ◌∷◌, ◌++◌, append-nil, append_assoc}
 use mathlib.Core.Bool.{Bool, true, false, ◌&&◌, ◌||◌}
 use lib.ListN.{length, drop, get_or, length-append}
-use Rattle.std.specs.Prelude.{Option, None, Some}
 use lib.Dec.{eqb}
 use borrow.Author.Tests.{ne_eqb}
 use Rattle.model.specs.Bytes.{Bytes, choose, u16}
@@ -21,8 +20,8 @@ use Rattle.walk.specs.Stands.{Stands, Skips, SkipsType, SkipsField, AllLaidOut}
 use Rattle.walk.proofs.Standing.{first_stands, second_stands, skip_ahead, skip_join}
 use Rattle.walk.proofs.Parts.{Ahead}
 use Rattle.walk.proofs.Descents.{code_stands}
-use Rattle.filter.specs.declared.Reach.{Reach}
-use Rattle.filter.specs.Filters.{CopiesTo, first_bytes, Sifts, alone, below, unless_nothing, TypeSifted, InnerSifted, KindFiltered, HolderFiltered, FiltersType, FiltersField, FiltersCounted, FiltersChildren, FiltersNested, FiltersInner, FiltersEncoded, leaves_of, leaves_of_all, kept_of, kept_of_all}
+use Rattle.buffer.specs.declared.Output.{Output}
+use Rattle.filter.specs.Filters.{Walk, walk_to, Filters, CopiesTo, taken_back, undone, first_bytes, Sifts, alone, below, TypeSifted, InnerSifted, KindFiltered, FiltersType, FiltersField, FiltersCounted, FiltersChildren, FiltersNested, FiltersInner, FiltersEncoded, leaves_of, leaves_of_all, kept_of, kept_of_all}
 use Rattle.filter.proofs.Walking.{filters_none, filters_as, filters_copied, filters_fronted, filters_undone}
 use Rattle.filter.proofs.Fields.{part_some, type_some, field_some}
 
@@ -46,28 +45,25 @@ module _ (l : ℕ) (k : Field l) where
       go [] = refl
       go (k ∷ ks) = refl
 
-module _ {s : Bytes} {place : ℕ} (code levels : ℕ) (mask : Bytes) {next : ℕ} {w : Bytes} {p : ℕ} {w' : Bytes} {r : Reach} where
-  by_code : (c : ℕ) → code ≡ c → FiltersChildren s place c levels mask next w p w' r → FiltersChildren s place code levels mask next w p w' r
-  by_code c e f = subst (λ c. FiltersChildren s place c levels mask next w p w' r) (sym e) f
+module _ (code levels : ℕ) {v v' : Walk} where
+  by_code : (c : ℕ) → code ≡ c → FiltersChildren c levels v v' → FiltersChildren code levels v v'
+  by_code c e f = subst (λ c. FiltersChildren c levels v v') (sym e) f
 
-  pub struct_filtered : code ≡ Struct → FiltersCounted s place 0 levels mask next w p w' r → FiltersChildren s place code levels mask next w p w' r
+  pub struct_filtered : code ≡ Struct → FiltersCounted 0 levels v v' → FiltersChildren code levels v v'
   unfolding layout table children_bytes
   struct_filtered e f = by_code Struct e λ l ks h c n z. f l (λ h. []) ks (λ h. refl) h z
 
-  pub union_filtered : code ≡ Union → FiltersCounted s place 1 levels mask next w p w' r → FiltersChildren s place code levels mask next w p w' r
+  pub union_filtered : code ≡ Union → FiltersCounted 1 levels v v' → FiltersChildren code levels v v'
   unfolding layout table children_bytes
   union_filtered e f = by_code Union e λ l ks h c n z. f l (λ h. h.type_id ∷ []) ks (λ h. refl) h z
 
-  pub others_filtered : (code ≡ Struct → ⊥) → (code ≡ Union → ⊥) → FiltersField s place levels mask next w p w' r → FiltersChildren s place code levels mask next w p w' r
+  pub others_filtered : (code ≡ Struct → ⊥) → (code ≡ Union → ⊥) → FiltersField levels v v' → FiltersChildren code levels v v'
   others_filtered a b f l ks h c =
-      subst (λ k. CountFits k ks → AllLaidOut l ks
-      → KindFiltered s mask l k ks place next w p w' r)
-      (sym (held_child code c a b)) (go ks)
+      subst (λ k. CountFits k ks → AllLaidOut l ks → KindFiltered l k ks v v') (sym (held_child code c a b)) (go ks)
     where
-      go : (ks : List (Field l)) → length ks ≡ 1 → AllLaidOut l ks
-          → KindFiltered s mask l (fields 1) ks place next w p w' r
+      go : (ks : List (Field l)) → length ks ≡ 1 → AllLaidOut l ks → KindFiltered l (fields 1) ks v v'
       go [] n z = absurd (omega (arith, n))
-      go (k ∷ []) n z = filters_as (one_bytes l k) (one_leaves l k) (one_kept l k (drop next mask)) (f l k h z.0)
+      go (k ∷ []) n z = filters_as (one_bytes l k) (one_leaves l k) (one_kept l k (drop v.leaf v.mask)) (f l k h z.0)
       go (k ∷ x ∷ ks) n z = absurd (omega (arith, n))
 
 -- A type that holds fields
@@ -91,20 +87,18 @@ nested_kept l t [] = refl
 nested_kept l t (k ∷ ks) =
     part_some (λ k. (t.code ∷ t.params) ++ k) (children_bytes (type_bytes l) (layout t.code).children (k ∷ ks)) (children_some l (layout t.code).children k ks)
 
-module _ {s : Bytes} {from : Reach} (code levels : ℕ) (mask : Bytes) {w w₁ : Bytes} {start : Reach} {w₂ : Bytes} {reach o : Reach} where
-  pub nested_filtered : {params children : ℕ} → Ahead s from.at 1 params → ((b : Bytes) → WellFormedParams (layout code).params b → Skips s params b children)
-      → CopiesTo s from children w w₁ start → FiltersChildren s start.at code levels mask start.leaf w₁ start.written w₂ reach
-      → o ≡ unless_nothing from.written start.written reach → FiltersNested s from.at code levels mask from.leaf w from.written w₂ o
+module _ {v : Walk} (code levels : ℕ) {v₁ v₂ : Walk} {o : Output} where
+  pub nested_filtered : {params children : ℕ} → Ahead v.sheet v.at 1 params → ((b : Bytes) → WellFormedParams (layout code).params b → Skips v.sheet params b children)
+      → CopiesTo children v v₁ → FiltersChildren code levels v₁ v₂ → o ≡ taken_back v.out.written v₁.out.written v₂.out
+      → FiltersNested code levels v (walk_to v₂.at v₂ o)
   unfolding type_bytes
   nested_filtered {params} {children} a f copy g u l t h e c z =
-      let filtered = subst (λ y. FiltersChildren s y.at code levels mask y.leaf w₁ y.written w₂ reach) copy.behind g in
+      let filtered = subst (λ y. FiltersChildren code levels y v₂) copy.behind g in
       let kids = subst (λ c. holds_fields c ≡ true → CountFits (layout c).children t.children → AllLaidOut l t.children
-      → KindFiltered s mask l (layout c).children t.children children from.leaf w₁ start.written w₂ reach)
+      → KindFiltered l (layout c).children t.children (walk_to children v v₁.out) v₂)
       e (filtered l t.children h) in
-      subst (HolderFiltered s mask l t from.at from.leaf w from.written w₂)
-      (sym u)
-      (filters_as refl refl (nested_kept l t (kept_of_all l t.children (drop from.leaf mask)))
-      (filters_fronted (filters_copied (t.code ∷ t.params) (front_skips code a f l t e z) copy.puts) (kids (sym (ap holds_fields e) ∙ c) z.1 z.2)))
+      filters_as refl refl (nested_kept l t (kept_of_all l t.children (drop v.leaf v.mask)))
+      (filters_fronted (filters_copied (t.code ∷ t.params) (front_skips code a f l t e z) copy) (kids (sym (ap holds_fields e) ∙ c) z.1 z.2) u)
 
 -- A type and what stands before it
 
@@ -112,42 +106,32 @@ inner_kept : (l : ℕ) (a : Bytes) (ts : List (DataType l)) → part (λ k. a ++
 inner_kept l a [] = refl
 inner_kept l a (t ∷ ts) = part_some (λ k. a ++ k) (type_bytes l t) (type_some l t)
 
-module _ {s : Bytes} {from : Reach} {inner : ℕ} (levels : ℕ) (mask : Bytes) {w w₁ : Bytes} {start : Reach} {w₂ : Bytes} {r : Option Reach}
-    (copy : CopiesTo s from inner w w₁ start) (type : FiltersType s start.at levels false mask start.leaf w₁ start.written w₂ r) where
-  type_filtered : FiltersType s inner levels false mask from.leaf w₁ start.written w₂ r
-  type_filtered = subst (λ y. FiltersType s y.at levels false mask y.leaf w₁ y.written w₂ r) copy.behind type
-
-  pub inner_leaf : {o : Option Reach} → r ≡ None → o ≡ None → FiltersInner s from.at inner levels mask from.leaf w from.written w₂ o
-  inner_leaf {o} e u l t a h z i st = go (type_filtered l t h z (subst (λ n. Stands s n (type_bytes l t)) (sym i) (second_stands a (type_bytes l t) st)))
+module _ {v : Walk} {inner : ℕ} (levels : ℕ) {v₁ v₂ : Walk} {r : Bool} {o : Output} where
+  pub inner_filtered : CopiesTo inner v v₁ → FiltersType levels false v₁ v₂ r → o ≡ taken_back v.out.written v₁.out.written v₂.out
+      → FiltersInner inner levels v (walk_to v₂.at v₂ o) r
+  inner_filtered copy type u l t a h z i st =
+      go (subst (λ y. FiltersType levels false y v₂ r) copy.behind type l t h z (subst (λ n. Stands v.sheet n (type_bytes l t)) (sym i) (second_stands a (type_bytes l t) st)))
     where
-      go : TypeSifted s mask l false t inner from.leaf w₁ start.written w₂ r
-          → InnerSifted s mask l a t from.at from.leaf w from.written w₂ o
-      go (alone x y v d) = alone x y u (filters_undone a (type_bytes l t) st (filters_copied a (record { behind = λ u. i }) copy.puts) d)
-      go (below ts rest n to x y v d) = let z : ◌≡◌ {A = ℕ} 0 1 = cc in absurd (omega (arith, z))
+      skip : Skips v.sheet v.at a inner
+      skip = record { behind = λ u. i }
 
-  pub inner_nested : {reach o : Reach} → r ≡ Some reach → o ≡ unless_nothing from.written start.written reach → FiltersInner s from.at inner levels mask from.leaf w from.written w₂ (Some o)
-  inner_nested {reach} {o} e u l t a h z i st = go (type_filtered l t h z (subst (λ n. Stands s n (type_bytes l t)) (sym i) (second_stands a (type_bytes l t) st)))
-    where
-      go : TypeSifted s mask l false t inner from.leaf w₁ start.written w₂ r
-          → InnerSifted s mask l a t from.at from.leaf w from.written w₂ (Some o)
-      go (alone x y v d) = let z : ◌≡◌ {A = ℕ} 0 1 = cc in absurd (omega (arith, z))
-      go (below ts rest n to x y v d) =
-          let same : to ≡ reach = cc in
-          below ts rest n (unless_nothing from.written start.written to) x y (ap Some (u ∙ sym (ap (unless_nothing from.written start.written) same)))
-          (filters_as refl refl (inner_kept l a ts) (filters_fronted (filters_copied a (record { behind = λ u. i }) copy.puts) d))
+      go : TypeSifted l false t (walk_to inner v v₁.out) v₂ r → InnerSifted l a t v (walk_to v₂.at v₂ o) r
+      go (alone x y c d) =
+          alone x y c (subst (λ o. Filters [] 0 [] v (undone v o)) (sym u) (filters_undone a (type_bytes l t) v₂.out st (filters_copied a skip copy) d))
+      go (below ts rest n x y c d) = below ts rest n x y c (filters_as refl refl (inner_kept l a ts) (filters_fronted (filters_copied a skip copy) d u))
 
 -- A Dictionary or RunEndEncoded that is looked through
 
-module _ (l : ℕ) (t : DataType (suc l)) (f g : Field l) (a b : Bytes) {s : Bytes} {place next : ℕ} {w : Bytes} {p : ℕ} {w' : Bytes} {r : Option Reach}
+module _ (l : ℕ) (t : DataType (suc l)) (f g : Field l) (a b : Bytes) {v v' : Walk} {r : Bool}
     (whole : a ++ type_bytes l g.data_type ≡ b) (again : (d : DataType l) → a ++ type_bytes l d ≡ type_bytes (suc l) (with_children t (f ∷ with_data_type g d ∷ []))) where
   -- the bytes a before the second child's type are all else of it
-  second_sifted : {model : Filtered (DataType l)} {count : Leaves ℕ} → Sifts s (a ++ type_bytes l g.data_type) (λ d. a ++ type_bytes l d) model count place next w p w' r
-      → Sifts s b (type_bytes (suc l)) (around t f g model) count place next w p w' r
+  second_sifted : {model : Filtered (DataType l)} {count : Leaves ℕ} → Sifts (a ++ type_bytes l g.data_type) (λ d. a ++ type_bytes l d) model count v v' r
+      → Sifts b (type_bytes (suc l)) (around t f g model) count v v' r
   unfolding around
-  second_sifted (alone x y v d) = alone (ap (around t f g) x) y v d
-  second_sifted (below [] rest n to x y v d) = below [] rest n to (ap (around t f g) x) y v (filters_as whole refl refl d)
-  second_sifted (below (c ∷ cs) rest n to x y v d) =
-      below (with_children t (f ∷ with_data_type g c ∷ []) ∷ []) rest n to (ap (around t f g) x) y v (filters_as whole refl (again c) d)
+  second_sifted (alone x y e d) = alone (ap (around t f g) x) y e d
+  second_sifted (below [] rest n x y e d) = below [] rest n (ap (around t f g) x) y e (filters_as whole refl refl d)
+  second_sifted (below (c ∷ cs) rest n x y e d) =
+      below (with_children t (f ∷ with_data_type g c ∷ []) ∷ []) rest n (ap (around t f g) x) y e (filters_as whole refl (again c) d)
 
 module _ (l : ℕ) (t : DataType (suc l)) (mask : Bytes) where
   held_type : (through : Bool) → holds_fields t.code ≡ true
@@ -170,10 +154,10 @@ module _ (l : ℕ) (t : DataType (suc l)) (mask : Bytes) where
     choose_false _ _ _ h ∙ choose_true _ _ _ e ∙ ap (leaves_of_second (λ x. type_leaf_count l false x)) k,
   )
 
-sifts_as : {s b : Bytes} {T : Type 0} {f : T → Bytes} {m m' : Filtered T} {c c' : Leaves ℕ} {place next : ℕ} {w : Bytes} {p : ℕ} {w' : Bytes} {r : Option Reach} → m ≡ m' → c ≡ c'
-    → Sifts s b f m' c' place next w p w' r → Sifts s b f m c place next w p w' r
-sifts_as d e (alone x y v k) = alone (d ∙ x) (e ∙ y) v k
-sifts_as d e (below ts rest n to x y v k) = below ts rest n to (d ∙ x) (e ∙ y) v k
+sifts_as : {b : Bytes} {T : Type 0} {f : T → Bytes} {m m' : Filtered T} {c c' : Leaves ℕ} {v v' : Walk} {r : Bool} → m ≡ m' → c ≡ c'
+    → Sifts b f m' c' v v' r → Sifts b f m c v v' r
+sifts_as d e (alone x y h k) = alone (d ∙ x) (e ∙ y) h k
+sifts_as d e (below ts rest n x y h k) = below ts rest n (d ∙ x) (e ∙ y) h k
 
 -- the bytes of a type without parameters
 bare_bytes : (l : ℕ) (t : DataType (suc l)) (c : ℕ) → t.code ≡ c → t.params ≡ [] → (ks : List (Field l)) → t.children ≡ ks
@@ -181,13 +165,13 @@ bare_bytes : (l : ℕ) (t : DataType (suc l)) (c : ℕ) → t.code ≡ c → t.p
 unfolding type_bytes
 bare_bytes l t c e p ks k = rw (e, p, k)
 
-module _ {s : Bytes} {place : ℕ} (code levels : ℕ) (mask : Bytes) {next : ℕ} {w : Bytes} {p : ℕ} {w' : Bytes} {r : Option Reach} where
+module _ (code levels : ℕ) {v v' : Walk} {r : Bool} where
   -- of a code without parameters, where the bytes of a type are those before the second child's type and that
   encoded : (c : ℕ) {inner : ℕ} → code ≡ c → encodes c ≡ true → ((b : Bytes) → WellFormedParams (layout c).params b → b ≡ [])
-      → (front : (l : ℕ) (x v : Field l) → Bytes)
-      → ((l : ℕ) (x v : Field l) (d : DataType l) → front l x v ++ type_bytes l d ≡ c ∷ children_bytes (type_bytes l) (layout c).children (x ∷ with_data_type v d ∷ []))
-      → ((l : ℕ) (x v : Field l) → l ≤ levels → LaidOut l x.data_type → Skips s place (front l x v) inner)
-      → FiltersInner s place inner levels mask next w p w' r → FiltersEncoded s place code levels mask next w p w' r
+      → (front : (l : ℕ) (x w : Field l) → Bytes)
+      → ((l : ℕ) (x w : Field l) (d : DataType l) → front l x w ++ type_bytes l d ≡ c ∷ children_bytes (type_bytes l) (layout c).children (x ∷ with_data_type w d ∷ []))
+      → ((l : ℕ) (x w : Field l) → l ≤ levels → LaidOut l x.data_type → Skips v.sheet v.at (front l x w) inner)
+      → FiltersInner inner levels v v' r → FiltersEncoded code levels v v' r
   encoded c e i bare front join skip g l t h d n z st =
       go t.children refl (encoded_two t.code (ap encodes (sym d ∙ e) ∙ i) t.children z.1) z.2
     where
@@ -198,37 +182,37 @@ module _ {s : Bytes} {place : ℕ} (code levels : ℕ) (mask : Bytes) {next : �
       none = bare t.params (subst (λ c. WellFormedParams (layout c).params t.params) is z.0)
 
       go : (ks : List (Field l)) → t.children ≡ ks → length ks ≡ 2 → AllLaidOut l ks
-          → TypeSifted s mask (suc l) true t place next w p w' r
+          → TypeSifted (suc l) true t v v' r
       go [] k m y = absurd (omega (arith, m))
       go (x ∷ []) k m y = absurd (omega (arith, m))
-      go (x ∷ v ∷ []) k m y =
-          let whole : front l x v ++ type_bytes l v.data_type ≡ type_bytes (suc l) t = join l x v v.data_type ∙ sym (bare_bytes l t c is none (x ∷ v ∷ []) k) in
-          let st' = subst (Stands s place) (sym whole) st in
-          let q = looked l t (drop next mask) (sym (ap holds_fields d) ∙ n) (ap encodes is ∙ i) x v k in
+      go (x ∷ w ∷ []) k m y =
+          let whole : front l x w ++ type_bytes l w.data_type ≡ type_bytes (suc l) t = join l x w w.data_type ∙ sym (bare_bytes l t c is none (x ∷ w ∷ []) k) in
+          let st' = subst (Stands v.sheet v.at) (sym whole) st in
+          let q = looked l t (drop v.leaf v.mask) (sym (ap holds_fields d) ∙ n) (ap encodes is ∙ i) x w k in
           sifts_as q.0 q.1
-          (second_sifted l t x v (front l x v) (type_bytes (suc l) t) whole
-          (λ b. join l x v b ∙ sym (bare_bytes l (with_children t (x ∷ with_data_type v b ∷ [])) c is none (x ∷ with_data_type v b ∷ []) refl))
-          (g l v.data_type (front l x v) h y.1.0 ((skip l x v h y.0).behind (first_stands (front l x v) (type_bytes l v.data_type) st')) st'))
-      go (x ∷ v ∷ u ∷ ks) k m y = absurd (omega (arith, m))
+          (second_sifted l t x w (front l x w) (type_bytes (suc l) t) whole
+          (λ b. join l x w b ∙ sym (bare_bytes l (with_children t (x ∷ with_data_type w b ∷ [])) c is none (x ∷ with_data_type w b ∷ []) refl))
+          (g l w.data_type (front l x w) h y.1.0 ((skip l x w h y.0).behind (first_stands (front l x w) (type_bytes l w.data_type) st')) st'))
+      go (x ∷ w ∷ u ∷ ks) k m y = absurd (omega (arith, m))
 
-  pub dictionary_filtered : {first value : ℕ} → code ≡ Dictionary → Ahead s place 1 first → SkipsType s first levels value → FiltersInner s place value levels mask next w p w' r
-      → FiltersEncoded s place code levels mask next w p w' r
+  pub dictionary_filtered : {first value : ℕ} → code ≡ Dictionary → Ahead v.sheet v.at 1 first → SkipsType v.sheet first levels value → FiltersInner value levels v v' r
+      → FiltersEncoded code levels v v' r
   unfolding layout table children_bytes encodes
   dictionary_filtered e a f g =
-      encoded Dictionary e refl (λ b q. q) (λ l x v. Dictionary ∷ type_bytes l x.data_type)
-      (λ l x v d. ap (λ b. Dictionary ∷ (type_bytes l x.data_type ++ b)) (sym (append-nil (type_bytes l d))))
-      (λ l x v h z. skip_join (skip_ahead (Dictionary ∷ []) refl a.1) (f l x.data_type h z)) g
+      encoded Dictionary e refl (λ b q. q) (λ l x w. Dictionary ∷ type_bytes l x.data_type)
+      (λ l x w d. ap (λ b. Dictionary ∷ (type_bytes l x.data_type ++ b)) (sym (append-nil (type_bytes l d))))
+      (λ l x w h z. skip_join (skip_ahead (Dictionary ∷ []) refl a.1) (f l x.data_type h z)) g
 
-  pub runs_filtered : {first values body : ℕ} → code ≡ RunEndEncoded → Ahead s place 1 first → SkipsField s first levels values → ((h : Head) → Skips s values (head_bytes h) body)
-      → FiltersInner s place body levels mask next w p w' r → FiltersEncoded s place code levels mask next w p w' r
+  pub runs_filtered : {first values body : ℕ} → code ≡ RunEndEncoded → Ahead v.sheet v.at 1 first → SkipsField v.sheet first levels values → ((h : Head) → Skips v.sheet values (head_bytes h) body)
+      → FiltersInner body levels v v' r → FiltersEncoded code levels v v' r
   unfolding layout table children_bytes encodes field_bytes
   runs_filtered e a f k g =
-      encoded RunEndEncoded e refl (λ b q. q) (λ l x v. RunEndEncoded ∷ (field_bytes (type_bytes l) x ++ head_bytes v.head))
-      (λ l x v d.
+      encoded RunEndEncoded e refl (λ b q. q) (λ l x w. RunEndEncoded ∷ (field_bytes (type_bytes l) x ++ head_bytes w.head))
+      (λ l x w d.
       ap (λ b. RunEndEncoded ∷ b)
-      (append_assoc (field_bytes (type_bytes l) x) (head_bytes v.head) (type_bytes l d)
-      ∙ ap (λ b. field_bytes (type_bytes l) x ++ b) (sym (append-nil (head_bytes v.head ++ type_bytes l d)))))
-      (λ l x v h z. skip_join (skip_ahead (RunEndEncoded ∷ []) refl a.1) (skip_join (f l x h z) (k v.head))) g
+      (append_assoc (field_bytes (type_bytes l) x) (head_bytes w.head) (type_bytes l d)
+      ∙ ap (λ b. field_bytes (type_bytes l) x ++ b) (sym (append-nil (head_bytes w.head ++ type_bytes l d)))))
+      (λ l x w h z. skip_join (skip_ahead (RunEndEncoded ∷ []) refl a.1) (skip_join (f l x h z) (k w.head))) g
 
 -- Types
 
@@ -238,45 +222,39 @@ unfolding choose
 held_kept l t [] = refl
 held_kept l t (k ∷ ks) = rw (ne_eqb (length (k ∷ ks)) 0 λ e. absurd (omega (arith, e)))
 
-module _ {s : Bytes} {place : ℕ} (code levels : ℕ) (mask : Bytes) {next : ℕ} {w : Bytes} {p : ℕ} where
+module _ (code levels : ℕ) {v : Walk} where
   -- all others are leaves
-  pub others_encoded : (code ≡ Dictionary → ⊥) → (code ≡ RunEndEncoded → ⊥) → FiltersEncoded s place code levels mask next w p w None
+  pub others_encoded : (code ≡ Dictionary → ⊥) → (code ≡ RunEndEncoded → ⊥) → FiltersEncoded code levels v v false
   unfolding encodes
   others_encoded a b l t h d n z st =
       let e : encodes t.code ≡ false = ap encodes (sym d) ∙ ap (λ y. y || eqb code RunEndEncoded) (ne_eqb code Dictionary a) ∙ ne_eqb code RunEndEncoded b in
-      let q = plain l t (drop next mask) (sym (ap holds_fields d) ∙ n) true e in
+      let q = plain l t (drop v.leaf v.mask) (sym (ap holds_fields d) ∙ n) true e in
       alone q.0 q.1 refl filters_none
 
-module _ {s : Bytes} {place : ℕ} (levels : ℕ) (through : Bool) (mask : Bytes) {next : ℕ} {w : Bytes} {p : ℕ} where
-  -- no type is of no level
-  pub no_level : levels ≤ 0 → FiltersType s place levels through mask next w p w None
-  no_level h zero t k z st = absurd z
-  no_level h (suc l) t k z st = absurd (omega (arith, h, k))
+module _ (levels : ℕ) (through : Bool) {v : Walk} {code : ℕ} {test : Bool} (e : code ≡ get_or v.sheet v.at 0) (i : test ≡ holds_fields code) where
+  pub type_held : {v' : Walk} → test ≡ true → FiltersNested code (levels - 1) v v'
+      → FiltersType levels through v v' true
+  type_held h g zero t k z st = absurd z
+  type_held {v'} h g (suc l) t k z st =
+      let c : code ≡ t.code = e ∙ code_stands l t st in
+      let d : holds_fields code ≡ true = sym i ∙ h in
+      let left = filter_each (filter_field (λ x m. filter_type l true x m)) t.children (drop v.leaf v.mask) in
+      let q = held_type l t (drop v.leaf v.mask) through (sym (ap holds_fields c) ∙ d) in
+      below (choose (eqb (length left.kept) 0) (λ u. []) λ u. with_children t left.kept ∷ []) left.mask (leaves_of_all l t.children) q.0 q.1 refl
+      (filters_as refl refl (held_kept l t left.kept) (g l t (omega arith) c d z))
 
-  module _ {code : ℕ} {test : Bool} (e : code ≡ get_or s place 0) (i : test ≡ holds_fields code) where
-    pub type_held : {w' : Bytes} {reach : Reach} → test ≡ true → FiltersNested s place code (levels - 1) mask next w p w' reach
-        → FiltersType s place levels through mask next w p w' (Some reach)
-    type_held h g zero t k z st = absurd z
-    type_held {w'} {reach} h g (suc l) t k z st =
-        let c : code ≡ t.code = e ∙ code_stands l t st in
-        let d : holds_fields code ≡ true = sym i ∙ h in
-        let left = filter_each (filter_field (λ x m. filter_type l true x m)) t.children (drop next mask) in
-        let q = held_type l t (drop next mask) through (sym (ap holds_fields c) ∙ d) in
-        below (choose (eqb (length left.kept) 0) (λ u. []) λ u. with_children t left.kept ∷ []) left.mask (leaves_of_all l t.children) reach q.0 q.1 refl
-        (filters_as refl refl (held_kept l t left.kept) (g l t (omega arith) c d z))
+  -- one was looked through before, and this type holds no fields
+  pub type_leaf : test ≡ false → through ≡ false → FiltersType levels through v v false
+  type_leaf h j zero t k z st = absurd z
+  type_leaf h j (suc l) t k z st =
+      let c : code ≡ t.code = e ∙ code_stands l t st in
+      let q = plain l t (drop v.leaf v.mask) (sym (ap holds_fields c) ∙ sym i ∙ h) through (ap (λ b. b && encodes t.code) j) in
+      alone q.0 q.1 refl filters_none
 
-    -- one was looked through before, and this type holds no fields
-    pub type_leaf : test ≡ false → through ≡ false → FiltersType s place levels through mask next w p w None
-    type_leaf h j zero t k z st = absurd z
-    type_leaf h j (suc l) t k z st =
-        let c : code ≡ t.code = e ∙ code_stands l t st in
-        let q = plain l t (drop next mask) (sym (ap holds_fields c) ∙ sym i ∙ h) through (ap (λ b. b && encodes t.code) j) in
-        alone q.0 q.1 refl filters_none
-
-    pub type_encoded : {w' : Bytes} {r : Option Reach} → test ≡ false → through ≡ true → FiltersEncoded s place code (levels - 1) mask next w p w' r
-        → FiltersType s place levels through mask next w p w' r
-    type_encoded h j g zero t k z st = absurd z
-    type_encoded {w'} {r} h j g (suc l) t k z st =
-        let c : code ≡ t.code = e ∙ code_stands l t st in
-        subst (λ b. TypeSifted s mask (suc l) b t place next w p w' r) (sym j)
-        (g l t (omega arith) c (sym i ∙ h) z st)
+  pub type_encoded : {v' : Walk} {r : Bool} → test ≡ false → through ≡ true → FiltersEncoded code (levels - 1) v v' r
+      → FiltersType levels through v v' r
+  type_encoded h j g zero t k z st = absurd z
+  type_encoded {v'} {r} h j g (suc l) t k z st =
+      let c : code ≡ t.code = e ∙ code_stands l t st in
+      subst (λ b. TypeSifted (suc l) b t v v' r) (sym j)
+      (g l t (omega arith) c (sym i ∙ h) z st)

@@ -4,6 +4,7 @@ use Prim.Native.Nat.{ℕ, ◌≤◌, ◌+◌, ◌*◌, ◌-◌}
 use lib.ListN.{length}
 use Rattle.model.specs.Bytes.{Bytes}
 use Rattle.model.specs.Tree.{Head}
+use Rattle.filter.specs.Filters.{reached}
 use Rattle.filter.proofs.Rows.{Turns}
 use Rattle.filter.proofs.Sieve.+filtering.Given as goal
 
@@ -35,4 +36,6 @@ abbrev pub decreases-filter_type : goal.decreases-filter_type
 decreases-filter_type l = 8 * l.levels + 0
 
 abbrev pub invariant-filter_row-loop : goal.invariant-filter_row-loop
-invariant-filter_row-loop v = (length v.w ≡ length v.initial.w) × (v.kept ≤ v.counter) × ((l : ℕ) (front : Head → Bytes) → ((h : Head) → length (front h) ≡ v.before) → l ≤ v.levels → Turns l front v.self.sheet.now v.self.mask.now v.fn.from.at v.count v.fn.from.leaf v.initial.w v.fn.from.written v.reach.at (v.count - v.counter) v.reach.leaf v.w v.reach.written v.kept)
+invariant-filter_row-loop v =
+    (v.kept ≤ v.counter)
+    × ((l : ℕ) (front : Head → Bytes) → ((h : Head) → length (front h) ≡ v.before) → l ≤ v.levels → Turns l front v.count (reached v.initial.self v.initial.out) (v.count - v.counter) (reached v.self v.out) v.kept)

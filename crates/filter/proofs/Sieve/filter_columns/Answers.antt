@@ -1,10 +1,9 @@
--- `filter_columns`: by whether the position is where it was.
+-- `filter_columns`: by whether as much was put as before.
 use Rattle.filter.proofs.Sheets.{columns_gone, columns_left}
 use Rattle.filter.proofs.Sieve.filter_columns.Goals as goal
 
-pub returns-then-reach-pos : goal.returns-then-reach-pos
-returns-then-reach-pos c =
-    columns_gone _ c.filter_counted-reach.ensures c.if-reach-pos.true c.byte-map.ensures.0 c.put_one.ensures
+pub returns-then-out-put : goal.returns-then-out-put
+returns-then-out-put c = columns_gone c.filter_counted.ensures c.if-out-put.true c.byte-map.ensures.0 c.put_one.ensures
 
-pub returns : goal.returns
-returns c = columns_left _ c.filter_counted-reach.ensures c.if-reach-pos.false
+pub returns-else-out-put : goal.returns-else-out-put
+returns-else-out-put c = columns_left c.filter_counted.ensures c.if-out-put.false

@@ -3,10 +3,8 @@ use native.Mathlib.Omega.{arith}
 use Rattle.filter.proofs.Fields.{leaf_dropped, leaf_kept}
 use Rattle.filter.proofs.Sieve.filter_leaf.Goals as goal
 
-pub returns-then-byte-eq0 : goal.returns-then-byte-eq0
-returns-then-byte-eq0 c =
-    leaf_dropped (λ h. omega (arith, h, c.saturating_add.ensures)) _ c.byte.ensures.0 c.if-byte-eq0.true
+pub returns-then-mark-eq0 : goal.returns-then-mark-eq0
+returns-then-mark-eq0 c = leaf_dropped (λ h. omega (arith, h, c.saturating_add-self.ensures)) _ c.byte-mark.ensures.0 c.if-mark-eq0.true
 
-pub returns : goal.returns
-returns c =
-    leaf_kept (λ h. omega (arith, h, c.saturating_add.ensures)) _ c.byte.ensures.0 c.if-byte-eq0.false c.copy_to.ensures
+pub returns-else-mark-eq0 : goal.returns-else-mark-eq0
+returns-else-mark-eq0 c = leaf_kept (λ h. omega (arith, h, c.saturating_add-self.ensures)) _ c.byte-mark.ensures.0 c.if-mark-eq0.false c.copy_to.ensures
