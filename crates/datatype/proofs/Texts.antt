@@ -16,9 +16,9 @@ use Rattle.model.proofs.ByteStrings.{same_bytes_eq, same_bytes_refl}
 use Rattle.model.proofs.SameBytes.{by_truth, not_true, name_split}
 use Rattle.model.proofs.Lists.{every_unit}
 use Rattle.model.proofs.MapBits.{name_set, metadata_set}
-use Rattle.walk.specs.Stands.{Stands, Skips}
+use Rattle.walk.specs.Stands.{Stands, Skips, SkipsName}
 use Rattle.walk.proofs.Standing.{first_stands, byte_stands, stands_behind, taken, skip_ahead, skip_join, skip_self}
-use Rattle.walk.proofs.Parts.{Ahead, two_at, part_if, front_stands, map_stands, sheet_metadata_set}
+use Rattle.walk.proofs.Parts.{Ahead, two_at, front_stands, map_stands, sheet_metadata_set}
 use Rattle.walk.proofs.Descents.{count_stands, elements_stand}
 use Rattle.datatype.specs.Comparisons.{PairsAt}
 use Rattle.datatype.proofs.Encodings.{rest_of}
@@ -105,22 +105,23 @@ module _ {s : Bytes} {place : ℕ} where
 
 -- A name with its length, as a head has it
 
-module _ {s : Bytes} {a map from end : ℕ} {n : Bool} (e : map ≡ get_or s a 0) (u : Ahead s a 1 from) (i : n ≡ bit 2 map)
-    (f : n ≡ true → (x : Bytes) → Skips s from (text_bytes x) end) (g : n ≡ false → end ≡ from) where
-  name_skips : (h : Head) → Stands s a (head_bytes h) → Skips s from (part text_bytes h.name) end
-  name_skips h st = part_if text_bytes n f g h.name (sym (name_bit_is e i h st))
-
+module _ {s : Bytes} {a end : ℕ} (n : SkipsName s a end) where
   -- the name lies inside, between the two places
-  pub name_taken : (h : Head) → Stands s a (head_bytes h) → (from ≤ end) × (end ≤ length s) × (take (end - from) (drop from s) ≡ part text_bytes h.name)
-  name_taken h st =
+  pub name_taken : {from : ℕ} → Ahead s a 1 from → (h : Head) → Stands s a (head_bytes h) → (from ≤ end) × (end ≤ length s) × (take (end - from) (drop from s) ≡ part text_bytes h.name)
+  unfolding front_bytes
+  name_taken {from} u h st =
       let w = first_stands (part text_bytes h.name) _ (rest_stands u h st) in
-      let k = (name_skips h st).behind w in
-      (omega (arith, k), omega (arith, k, w.inside), taken w k)
+      let front = front_stands h st in
+      let k = (n h front).behind (first_stands (head_map h ∷ part text_bytes h.name) (part (with_count pair_bytes) h.metadata) front) in
+      let j : end ≡ from + length (part text_bytes h.name) = omega (arith, k, u.1 (omega (arith, front.inside))) in
+      (omega (arith, j), omega (arith, j, w.inside), taken w j)
 
   -- the metadata stands behind it
-  pub head_pairs : {m : Bool} {count at : ℕ} → m ≡ bit 3 map → PairsIf s end m count at → (h : Head) → Stands s a (head_bytes h) → PairsAt s h.metadata count at
-  unfolding bit
-  head_pairs j q h st = q h.metadata (sym (j ∙ ap (bit 3) (map_stands e h st) ∙ metadata_set h)) (stands_behind (name_skips h st) (rest_stands u h st))
+  pub head_pairs : {map : ℕ} {m : Bool} {count at : ℕ} → map ≡ get_or s a 0 → m ≡ bit 3 map → PairsIf s end m count at → (h : Head) → Stands s a (head_bytes h) → PairsAt s h.metadata count at
+  unfolding front_bytes bit
+  head_pairs e j q h st =
+      let front = front_stands h st in
+      q h.metadata (sym (j ∙ ap (bit 3) (map_stands e h st) ∙ metadata_set h)) (stands_behind (n h front) front)
 
 -- what `has_name` ensures
 abbrev pub HasName : Bytes → ℕ → Bytes → Bool → Type 0

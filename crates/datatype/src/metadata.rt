@@ -54,10 +54,8 @@ pub fn same_name(s: &[u8], a: usize, t: &[u8], b: usize) -> bool
 pub fn name_of<'a>(s: &'a [u8], at: usize) -> &'a [u8]
     ensures { (h : Head) → Stands s.now at (head_bytes h) → result.now ≡ part text_bytes h.name }
 {
-    let map = walk::byte(s, at);
     let from = walk::ahead(s, at, 1);
-    let end = walk::skip_if(s, from, walk::bit(map, 2), walk::skip_text);
-    s.get(from..end).unwrap_or(&[])
+    s.get(from..walk::skip_name(s, at)).unwrap_or(&[])
 }
 
 // Whether a field has a name, which is given as `name_of` gives one. So one name can be compared with many; since the length is compared
@@ -113,10 +111,8 @@ pub fn contains_metadata(s: &[u8], all: Elements, t: &[u8], asked: Elements) -> 
 pub fn of_head(s: &[u8], at: usize) -> Elements
     ensures { (h : Head) → Stands s.now at (head_bytes h) → PairsAt s.now h.metadata result.count result.at }
 {
-    let map = walk::byte(s, at);
-    let name = walk::ahead(s, at, 1);
-    let place = walk::skip_if(s, name, walk::bit(map, 2), walk::skip_text);
-    Elements::counted_if(s, place, walk::bit(map, 3))
+    let place = walk::skip_name(s, at);
+    Elements::counted_if(s, place, walk::bit(walk::byte(s, at), 3))
 }
 
 // The metadata of a sheet's schema.

@@ -15,7 +15,7 @@ use Rattle.model.specs.Sheet.{head_map, front_bytes, dict_id_bytes, dict_id_stan
 use Rattle.model.proofs.Numerals.{length_little_endian}
 use Rattle.model.proofs.MapBits.{flag_one, is_one, name_set, metadata_set, dict_id_set}
 use Rattle.model.specs.WellFormed.{WellFormedItems, WellFormedZone, WellFormedParams}
-use Rattle.walk.specs.Stands.{Stands, Skips}
+use Rattle.walk.specs.Stands.{Stands, Skips, SkipsName}
 use Rattle.layout.specs.declared.ParamsKind.{ParamsKind}
 use Rattle.layout.specs.declared.ParamsKind.TheVariants.{None, Timestamp, Unit, IntervalUnit, Int32, Flag, Decimal}
 use Rattle.layout.specs.Kinds.{params_of}
@@ -93,17 +93,16 @@ module _ (a b : Bool) where
   sheet_columns_set = sheet_columns_bit
 
 module _ {s : Bytes} {place : ℕ} where
-  pub front_skips : {map name metadata r : ℕ} {n m : Bool} → map ≡ get_or s place 0 → Ahead s place 1 name
-      → n ≡ bit 2 map → (n ≡ true → (t : Bytes) → Skips s name (text_bytes t) metadata) → (n ≡ false → metadata ≡ name)
+  pub name_skips : {map name end : ℕ} {n : Bool} → map ≡ get_or s place 0 → Ahead s place 1 name
+      → n ≡ bit 2 map → (n ≡ true → (t : Bytes) → Skips s name (text_bytes t) end) → (n ≡ false → end ≡ name) → SkipsName s place end
+  unfolding front_bytes bit
+  name_skips e a i f g h st = skip_join (skip_ahead (_ ∷ []) refl a.1) (part_if text_bytes _ f g h.name (sym (i ∙ ap (bit 2) (e ∙ byte_stands st) ∙ name_set h)))
+
+  pub front_skips : {map metadata r : ℕ} {m : Bool} → map ≡ get_or s place 0 → SkipsName s place metadata
       → m ≡ bit 3 map → (m ≡ true → (x : Metadata) → Skips s metadata (with_count pair_bytes x) r) → (m ≡ false → r ≡ metadata)
       → (h : Head) → Skips s place (front_bytes h) r
   unfolding front_bytes bit
-  front_skips e a i f g j k o h =
-      skip_when λ st.
-      let w = e ∙ byte_stands st in
-      skip_join (skip_ahead (_ ∷ []) refl a.1)
-      (skip_join (part_if text_bytes _ f g h.name (sym (i ∙ ap (bit 2) w ∙ name_set h)))
-      (part_if (with_count pair_bytes) _ k o h.metadata (sym (j ∙ ap (bit 3) w ∙ metadata_set h))))
+  front_skips e n j k o h = skip_when λ st. skip_join (n h st) (part_if (with_count pair_bytes) _ k o h.metadata (sym (j ∙ ap (bit 3) (e ∙ byte_stands st) ∙ metadata_set h)))
 
   -- a head begins with its front
   pub front_stands : (h : Head) → Stands s place (head_bytes h) → Stands s place (front_bytes h)

@@ -3,7 +3,7 @@ use Rattle.std.specs.Prelude.{ℕ, ◌+◌, ◌≤◌, ◌≡◌, List, ◌∷�
 use Rattle.model.specs.Numbers.{max_levels}
 use Rattle.model.specs.Bytes.{Bytes, Every, flag}
 use Rattle.model.specs.Tree.{Head, DataType, Field, Schema, Children}
-use Rattle.model.specs.Sheet.{each, part, stands, with_count, pair_bytes, field_bytes, children_bytes, type_bytes, column_bytes, sheet_bytes}
+use Rattle.model.specs.Sheet.{head_map, front_bytes, each, part, stands, with_count, text_bytes, pair_bytes, field_bytes, children_bytes, type_bytes, column_bytes, sheet_bytes}
 use Rattle.model.specs.WellFormed.{CountFits, LaidOut}
 use Rattle.model.specs.Datatype.{is_nested}
 
@@ -15,6 +15,10 @@ pub record Stands (s : Bytes) (place : ℕ) (b : Bytes) : Type 0 where
 -- where the bytes b stand at a place, r is the place behind them
 pub record Skips (s : Bytes) (place : ℕ) (b : Bytes) (r : ℕ) : Type 0 where
   pub behind : Stands s place b → r ≡ place + length b
+
+-- where a field's map, name and metadata stand at a place, r is the place behind the name
+abbrev pub SkipsName : (s : Bytes) (place r : ℕ) → Type 0
+SkipsName s place r = (h : Head) → Stands s place (front_bytes h) → Skips s place (head_map h ∷ part text_bytes h.name) r
 
 -- Trees of at most so many levels
 

@@ -11,7 +11,7 @@ ghost use Rattle.model.specs.Sheet.{front_bytes, each, with_count, text_bytes, p
 ghost use Rattle.model.specs.WellFormed.{WellFormedParams};
 ghost use Rattle.model.specs.Datatype.{holds_fields};
 ghost use Rattle.buffer.specs.Puts.{Puts};
-ghost use Rattle.walk.specs.Stands.{Stands, Skips, SkipsType, SkipsField, SkipsMember, SkipsRow, SkipsChildren, TellsNested, SkipsSheetHead, ColumnsAt, SkipsSheet};
+ghost use Rattle.walk.specs.Stands.{Stands, Skips, SkipsName, SkipsType, SkipsField, SkipsMember, SkipsRow, SkipsChildren, TellsNested, SkipsSheetHead, ColumnsAt, SkipsSheet};
 ghost use Rattle.layout.specs.Kinds.{params_of};
 ghost use Rattle.walk.specs.Widths.{width};
 
@@ -141,14 +141,21 @@ pub fn skip_if<F: FnOnce(&[u8], usize) -> usize>(s: &[u8], at: usize, set: bool,
     if set { skip(s, at) } else { at }
 }
 
+// A field's map and name.
+pub fn skip_name(s: &[u8], at: usize) -> usize
+    ensures { SkipsName s.now at result }
+{
+    let map = byte(s, at);
+    let name = ahead(s, at, 1);
+    skip_if(s, name, bit(map, 2), skip_text)
+}
+
 // A field's map, name and metadata.
 pub fn skip_front(s: &[u8], at: usize) -> usize
     ensures { (h : Head) → Skips s.now at (front_bytes h) result }
 {
-    let map = byte(s, at);
-    let name = ahead(s, at, 1);
-    let metadata = skip_if(s, name, bit(map, 2), skip_text);
-    skip_if(s, metadata, bit(map, 3), skip_metadata)
+    let metadata = skip_name(s, at);
+    skip_if(s, metadata, bit(byte(s, at), 3), skip_metadata)
 }
 
 // A field's map, name, metadata and dictionary number.

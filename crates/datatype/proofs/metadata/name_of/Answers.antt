@@ -4,4 +4,4 @@ use Rattle.datatype.proofs.Texts.{name_taken}
 use Rattle.datatype.proofs.metadata.name_of.Goals as goal
 
 pub returns : goal.returns
-returns c = λ h st. let (f, g, t) = name_taken c.byte-map.ensures.0 c.ahead-from.ensures c.bit.ensures c.skip_if-end.ensures.set c.skip_if-end.ensures.unset h st in search rules
+returns c = λ h st. let (f, g, t) = name_taken c.skip_name.ensures c.ahead-from.ensures h st in search rules
