@@ -13,9 +13,9 @@ use Rattle.model.specs.Sheet.{head_map, front_bytes, dict_id_bytes, dict_id_stan
 use Rattle.buffer.specs.declared.Output.{Output}
 use Rattle.buffer.specs.Puts.{Puts}
 use Rattle.buffer.proofs.Puts.{puts_same, puts_join}
-use Rattle.walk.specs.Stands.{Stands, Skips}
+use Rattle.walk.specs.Stands.{Stands, Skips, SkipsName}
 use Rattle.walk.proofs.Standing.{first_stands, stands_behind, skip_ahead}
-use Rattle.model.proofs.MapBits.{flag_one, quarters, name_bit, dict_id_bit, name_set}
+use Rattle.model.proofs.MapBits.{flag_one, quarters, name_bit, dict_id_bit}
 use Rattle.walk.proofs.Parts.{Ahead, front_stands, map_stands}
 use Rattle.walk.proofs.Descents.{head_stands}
 use Rattle.table.specs.Table.{three, SpellMetadata, raw_pairs, pair_places, SpellField}
@@ -67,15 +67,16 @@ module _ {s : Bytes} {first map name : ℕ} (e : map ≡ get_or s first 0) (a : 
         puts_join (_ ∷ []) rest (puts_same (ap (λ n. n ∷ []) i) one) (f rest (name_stands h st) (omega (arith, (g h).behind st, name_at h st)))
 
     pub name_puts : {m : ℕ} (metadata : Bool) → m ≡ flag 8 metadata → Puts ((flags % 4 + map / 4 % 2 * 4 + m + map / 16 % 2 * 16) ∷ []) o o₁
-        → ((t : Bytes) → stands t ≡ bit 2 map → Skips s name (part text_bytes t) end) → PutsName s first flags metadata o o₂
-    unfolding bit
+        → SkipsName s first end → PutsName s first flags metadata o o₂
+    unfolding front_bytes bit
     name_puts {m} metadata k one g h st =
         let w = map_stands e h st in
         let i : flags % 4 + map / 4 % 2 * 4 + m + map / 16 % 2 * 16 ≡ flag 1 (eqb (flags % 2) 1) + flag 2 (eqb (flags / 2 % 2) 1) + flag 4 (stands h.name) + flag 8 metadata + flag 16 (dict_id_stands h.dict_id) =
         omega (arith, k, low_bits flags, ap (λ m. m / 4 % 2 * 4) w ∙ middle_bit h, ap (λ m. m / 16 % 2 * 16) w ∙ high_bit h) in
-        let named = ap (λ m. eqb (m / 4 % 2) 1) w ∙ name_set h in
+        let front = front_stands h st in
+        let behind = (g h front).behind (first_stands (head_map h ∷ part text_bytes h.name) (part (with_count pair_bytes) h.metadata) front) in
         let there = first_stands (part text_bytes h.name) _ (first_stands (part text_bytes h.name ++ part (with_count pair_bytes) h.metadata) _ (name_stands h st)) in
-        puts_join (_ ∷ []) (part text_bytes h.name) (puts_same (ap (λ n. n ∷ []) i) one) (f (part text_bytes h.name) there ((g h.name (sym named)).behind there))
+        puts_join (_ ∷ []) (part text_bytes h.name) (puts_same (ap (λ n. n ∷ []) i) one) (f (part text_bytes h.name) there (omega (arith, behind, name_at h st)))
 
 -- the dictionary number stands between the front of the head and its end
 pub dict_id_puts : {s : Bytes} {first front end : ℕ} {o o₁ : Output} → ((h : Head) → Skips s first (front_bytes h) front) → ((h : Head) → Skips s first (head_bytes h) end)

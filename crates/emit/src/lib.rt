@@ -60,11 +60,9 @@ fn put_name(s: &[u8], first: usize, flags: usize, metadata: bool, out: &mut Outp
     ensures { PutsName s.now first flags metadata out.old out.new }
 {
     let map = walk::byte(s, first);
-    let name = walk::ahead(s, first, 1);
-    let end = walk::skip_if(s, name, walk::bit(map, 2), walk::skip_text);
     let own = flags % 4 + map / 4 % 2 * 4 + usize::from(metadata) * 8 + map / 16 % 2 * 16;
     out.put_one(own as u8);
-    walk::put_part(out, s, name, end);
+    walk::put_part(out, s, walk::ahead(s, first, 1), walk::skip_name(s, first));
 }
 
 // The type of at most so many levels that some bytes begin with.
