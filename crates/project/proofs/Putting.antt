@@ -1,10 +1,10 @@
 -- The sheet of an accepted projection, put piece by piece: the map and the metadata, the count, the column of each entry.
-use Prim.Native.Nat.{ℕ, ◌+◌, ◌*◌, ◌/◌, ◌%◌, ◌≤◌, ◌<◌}
+use Prim.Native.Nat.{ℕ, ◌+◌, ◌*◌, ◌/◌, ◌%◌, ◌<◌}
 use native.Mathlib.Omega.{arith}
 use mathlib.Core.Path.{◌≡◌, refl, sym, ap, subst, ◌∙◌}
 use mathlib.Core.List.{List, [], ◌∷◌, ◌++◌, append_assoc, append-nil}
 use mathlib.Core.Bool.{Bool, true, false, not}
-use lib.ListN.{length, drop, get_or}
+use lib.ListN.{length, get_or}
 use lib.Dec.{eqb}
 use borrow.Author.Tests.{eqb-true, eqb-false}
 use mir.Val.{bool_byte}
@@ -16,7 +16,7 @@ use Rattle.model.specs.Read.{got}
 use Rattle.model.specs.Schema.{select, join, project}
 use Rattle.model.proofs.Lists.{each_append}
 use Rattle.model.proofs.Projection.{project_accepted}
-use Rattle.model.proofs.Entries.{entries, entries_next, entries_end, projected_entries}
+use Rattle.model.proofs.Entries.{entries, entries_end, projected_entries}
 use Rattle.buffer.specs.declared.Output.{Output}
 use Rattle.buffer.specs.Puts.{Puts}
 use Rattle.buffer.proofs.Puts.{puts_none, puts_beyond, puts_same, puts_join, puts_two}
@@ -25,6 +25,7 @@ use Rattle.walk.proofs.Standing.{whole_stands, first_stands, second_stands, byte
 use Rattle.walk.proofs.Parts.{sheet_metadata_set}
 use Rattle.walk.proofs.Schemas.{each_column}
 use Rattle.project.specs.Table.{Table, place_at}
+use Rattle.project.proofs.Walk.{entries_first}
 
 -- What the functions ensure that put a part: `put_part`, `put_front`, `put_columns`, and of the whole `put_projected`
 
@@ -72,54 +73,54 @@ abbrev Inside : List (Field max_levels) → List ℕ → Type 0
 Inside fs is = Every (λ i. i < length fs) is
 
 -- so much is put, and what is left
-pub record Part (fs : List (Field max_levels)) (list : Bytes) (o o' : Output) (e : ℕ) : Type 0 where
+pub record Part (fs : List (Field max_levels)) (list left : Bytes) (o o' : Output) : Type 0 where
   done : Bytes
   puts : Puts done o o'
-  all : chosen fs (entries list) ≡ done ++ chosen fs (entries (drop (2 * e) list))
-  inside : Inside fs (entries (drop (2 * e) list))
+  all : chosen fs (entries list) ≡ done ++ chosen fs (entries left)
+  inside : Inside fs (entries left)
 
--- the columns of the first e entries are put, where there are a table and a list of indexes
-abbrev pub Putting : (s table list : Bytes) (o o' : Output) (e : ℕ) → Type 0
-Putting s table list o o' e = (fs : List (Field max_levels)) → Table s table fs → Inside fs (entries list) → Part fs list o o' e
+-- the columns of the entries before those left are put, where there are a table and a list of indexes
+abbrev pub Putting : (s table list left : Bytes) (o o' : Output) → Type 0
+Putting s table list left o o' = (fs : List (Field max_levels)) → Table s table fs → Inside fs (entries list) → Part fs list left o o'
 
-pub putting_begin : (s table list : Bytes) (o : Output) → Putting s table list o o 0
-putting_begin s table list o fs t i = record { done = []; puts = puts_none; all = refl; inside = i }
+pub putting_begin : (s table : Bytes) {list left : Bytes} {o : Output} → left ≡ list → Putting s table list left o o
+putting_begin s table e fs t i = record { done = []; puts = puts_none; all = ap (λ l. chosen fs (entries l)) (sym e); inside = subst (λ l. Inside fs (entries l)) (sym e) i }
 
-module _ {s table list : Bytes} {o o₁ : Output} {e : ℕ} (k : Putting s table list o o₁ e) where
-  pub putting_again : {i from to : ℕ} {o₂ : Output} → e < length list / 2 → i ≡ get_or list (2 * e) 0 + 256 * get_or list (2 * e + 1) 0
-      → from ≡ place_at table i → to ≡ place_at table (i + 1) → PutsPart s from to o₁ o₂ → Putting s table list o o₂ (e + 1)
+module _ {s table list left : Bytes} {o o₁ : Output} (k : Putting s table list left o o₁) where
+  pub putting_again : (entry : Bytes) {behind : Bytes} {i from to : ℕ} {o₂ : Output} → left ≡ entry ++ behind → length entry ≡ 2 → i ≡ get_or entry 0 0 + 256 * get_or entry 1 0
+      → from ≡ place_at table i → to ≡ place_at table (i + 1) → PutsPart s from to o₁ o₂ → Putting s table list behind o o₂
   unfolding join
-  putting_again {i} {from} {to} {o₂} h is f t put fs tab every =
+  putting_again entry {behind} {i} {from} {to} {o₂} h two is f t put fs tab every =
       let p = k fs tab every in
-      let left = entries_next list e h is in
-      let ins : Inside fs (i ∷ entries (drop (2 * (e + 1)) list)) = subst (Inside fs) left p.inside in
+      let next = ap entries h ∙ entries_first entry behind two is in
+      let ins : Inside fs (i ∷ entries behind) = subst (Inside fs) next p.inside in
       let st = subst (λ m. Stands s m (each column_bytes (select fs i))) (sym f) (tab.stands i ins.0) in
       let ends : to ≡ from + length (each column_bytes (select fs i)) = omega (arith, t, f, tab.ends i ins.0) in
       record {
         done = p.done ++ each column_bytes (select fs i);
         puts = puts_join p.done (each column_bytes (select fs i)) p.puts (put _ st ends);
         all = p.all
-            ∙ ap (λ is. p.done ++ chosen fs is) left
-            ∙ ap (λ b. p.done ++ b) (each_append column_bytes (select fs i) (join (select fs) (entries (drop (2 * (e + 1)) list))))
-            ∙ sym (append_assoc p.done (each column_bytes (select fs i)) (chosen fs (entries (drop (2 * (e + 1)) list))));
+            ∙ ap (λ is. p.done ++ chosen fs is) next
+            ∙ ap (λ b. p.done ++ b) (each_append column_bytes (select fs i) (join (select fs) (entries behind)))
+            ∙ sym (append_assoc p.done (each column_bytes (select fs i)) (chosen fs (entries behind)));
         inside = ins.1;
       }
 
   -- what is left is put with nothing written: none is left, or it lies beyond the longest answer
-  rest_put : ((fs : List (Field max_levels)) → Puts (chosen fs (entries (drop (2 * e) list))) o₁ o₁) → PutsColumns s table list o o₁
+  rest_put : ((fs : List (Field max_levels)) → Puts (chosen fs (entries left)) o₁ o₁) → PutsColumns s table list o o₁
   rest_put rest x y strict n tab h =
       let a = project_accepted strict x list y n h in
       let es = projected_entries a in
       let p = k x.columns tab (subst (Inside x.columns) es a.inside) in
       puts_same (sym (ap (each column_bytes) (a.columns ∙ ap (join (select x.columns)) es) ∙ p.all))
-      (puts_join p.done (chosen x.columns (entries (drop (2 * e) list))) p.puts (rest x.columns))
+      (puts_join p.done (chosen x.columns (entries left)) p.puts (rest x.columns))
 
   pub putting_beyond : max_sheet_bytes < o₁.written → PutsColumns s table list o o₁
   putting_beyond h = rest_put λ fs. puts_beyond _ h
 
-  pub putting_done : length list / 2 ≤ e → PutsColumns s table list o o₁
+  pub putting_done : length left < 2 → PutsColumns s table list o o₁
   unfolding join
-  putting_done h = rest_put λ fs. puts_same (sym (ap (chosen fs) (entries_end list e h))) puts_none
+  putting_done h = rest_put λ fs. puts_same (sym (ap (chosen fs) (entries_end left 0 (omega (arith, h))))) puts_none
 
 -- The sheet
 

@@ -72,8 +72,8 @@ fn check_list(list: &[u8], strict: bool, seen: &mut [u8]) -> Result<(), Refusal>
         return Err(Refusal::from(Number::OddList));
     }
     buffer::clear(seen);
-    for e in 0..list.len() / 2 {
-        let checked = check_entry(seen, walk::two(list, 2 * e), strict, e);
+    for (e, entry) in list.chunks_exact(2).enumerate() {
+        let checked = check_entry(seen, walk::two(entry, 0), strict, e);
         let Ok(()) = checked else {
             return checked;
         };
@@ -118,11 +118,11 @@ fn put_front(s: &[u8], columns: bool, out: &mut Output<'_>)
 fn put_columns(s: &[u8], table: &[u8], list: &[u8], out: &mut Output<'_>)
     ensures { (x y : Schema) (strict : Bool) (n : ℕ) → Table s.now table.now x.columns → project strict x list.now ≡ got y n → Puts (each column_bytes y.columns) out.old out.new }
 {
-    for e in 0..list.len() / 2 {
+    for entry in list.chunks_exact(2) {
         if buffer::MAX_ANSWER_BYTES < out.written {
             return;
         }
-        let i = walk::two(list, 2 * e);
+        let i = walk::two(entry, 0);
         let from = walk::two(table, 2 * i);
         let to = walk::two(table, 2 * (i + 1));
         walk::put_part(out, s, from, to);
