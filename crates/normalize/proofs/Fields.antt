@@ -1,5 +1,5 @@
 -- A field at a depth: the column that it is, or those of its children.
-use Prim.Native.Nat.{ℕ, zero, suc, ◌+◌, ◌≤◌, ◌<◌}
+use Prim.Native.Nat.{ℕ, zero, suc, ◌+◌, ◌<◌}
 use native.Mathlib.Omega.{arith}
 use mathlib.Core.Path.{◌≡◌, refl, sym, ap, ap₂, subst, ◌∙◌}
 use mathlib.Core.List.{List, [], ◌∷◌, ◌++◌, append_assoc, append-nil}
@@ -74,12 +74,6 @@ children_columns separator maxLevel place l path up hs h ks = join_same _ _ (λ 
     name m =
         ap (λ b. b ++ m) (prefix_snoc separator hs h ∙ sym (append_assoc (prefix separator hs) h.name separator))
         ∙ append_assoc (prefix separator hs ++ h.name) separator m
-
--- no field is so deep
-pub no_level : {s : Bytes} (separator : Bytes) (maxLevel : ℕ) (path : List ℕ) {o o' : Output} {from to : Reach}
-    → max_levels ≤ length path → ExpandsField s separator maxLevel path o o' from to
-no_level separator maxLevel path h zero up hs f k e a z = absurd z
-no_level separator maxLevel path h (suc l) up hs f k e a z = absurd (omega (arith, h, k))
 
 -- whether a field is expanded, from its type's code
 module _ {s : Bytes} (separator : Bytes) (maxLevel : ℕ) (path : List ℕ) (from : Reach) {typed code depth : ℕ} {t : Bool}

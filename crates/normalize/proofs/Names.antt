@@ -1,5 +1,5 @@
 -- The name of a column: the names of the fields above, each with the separator behind it, then the field's own.
-use Prim.Native.Nat.{ℕ, ◌+◌, ◌/◌, ◌%◌, ◌≤◌, ◌<◌}
+use Prim.Native.Nat.{ℕ, ◌+◌, ◌/◌, ◌%◌, ◌<◌}
 use native.Mathlib.Omega.{arith}
 use native.Mathlib.Numerals.{add-one}
 use mathlib.Core.Path.{◌≡◌, refl, sym, ap, ap₂, subst, subst₂, ◌∙◌}
@@ -7,7 +7,7 @@ use mathlib.Core.List.{List, [], ◌∷◌, ◌++◌, append-nil}
 use mathlib.Core.Bool.{Bool, true, false}
 use lib.ListN.{length, take, get_or, length-append}
 use lib.Dec.{eqb, leb}
-use lib.Seq.{take_all, take-suc, take_at, get_or_at, get_or-take}
+use lib.Seq.{take-suc, take_at, get_or_at, get_or-take}
 use borrow.Author.Tests.{eqb-true, eqb-false, leb-true, leb-false}
 use Rattle.model.specs.Numbers.{max_sheet_bytes}
 use Rattle.model.specs.Bytes.{Bytes, u16, bit, flag}
@@ -91,13 +91,6 @@ module _ {s separator : Bytes} {path : List ℕ} {o : Output} where
           sym (ap (λ n. prefix separator (take n hs)) (add-one i) ∙ ap (prefix separator) (take-suc hs i blank (omega (arith, h, a.count))) ∙ prefix_snoc separator (take i hs) x) in
           puts_same all (puts_join (prefix separator (take i hs)) (x.name ++ separator) (k.puts hs a) (puts_join x.name separator (f x (a.stand i h)) g));
     }
-
-    pub prefixed_done : {places : List ℕ} → places ≡ path → length places ≤ i → (hs : List Head) → Above s path hs → Puts (prefix separator hs) o o₁
-    prefixed_done e h hs a = subst (λ xs. Puts (prefix separator xs) o o₁) (take_all i hs (omega (arith, a.count, ap length e, h))) (k.puts hs a)
-
--- The length of a name, from its bytes as they are put into an output that has none
-pub name_measured : (b : Bytes) {o o' : Output} → o.written ≡ 0 → Puts b o o' → Measures b o'.written
-name_measured b z f = record { inside = λ h. omega (arith, z, f.inside (omega (arith, z, h))); beyond = λ h. f.beyond (omega (arith, z, h)) }
 
 -- A column's head: the map, and behind it the name with its length, if it is not empty
 

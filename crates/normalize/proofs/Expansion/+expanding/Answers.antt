@@ -4,15 +4,12 @@ use native.Mathlib.Nat.{sub-zero}
 use mathlib.Core.Path.{ap}
 use lib.ListN.{length}
 use Rattle.normalize.proofs.Columns.{turns_begin, turns_again, turns_stop, turns_done}
-use Rattle.normalize.proofs.Fields.{no_level, field_itself, field_expanded}
+use Rattle.normalize.proofs.Fields.{field_itself, field_expanded}
 use Rattle.normalize.proofs.Expansion.+expanding.Goals as goal
 
 pub expand_field-returns-then-not-expands : goal.expand_field-returns-then-not-expands
 expand_field-returns-then-not-expands t c =
     field_itself _ _ _ _ c.skip_head-data_type.ensures c.byte.ensures.0 (ap length c.places.ensures) c.expands.ensures c.if-not-expands.true c.put_column.ensures
-
-pub expand_field-returns-in_default : goal.expand_field-returns-in_default
-expand_field-returns-in_default t c = no_level _ _ _ c.in_default.ensures
 
 pub expand_field-returns : goal.expand_field-returns
 expand_field-returns t c =
