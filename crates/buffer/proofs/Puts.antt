@@ -1,4 +1,5 @@
 -- Bytes put one behind the other, and the end of a call that puts its answer: first for its length, then into the answer buffer.
+use base.Fml.{GName}
 use Prim.Native.Nat.{ℕ, ◌+◌, ◌%◌, ◌/◌, ◌≤◌, ◌<◌}
 use native.Mathlib.Omega.{arith}
 use mathlib.Core.Path.{◌≡◌, refl, sym, ap, subst, ◌∙◌}
@@ -84,10 +85,10 @@ pub fills : (b : Bytes) {w : Bytes} {o o' : Output} → o.buffer.now ≡ w → o
 fills b {w} {o} e z h =
     record { inside = λ k. omega (arith, h.inside (omega (arith, k, z)), z); beyond = λ k. h.beyond (omega (arith, k, z)); size = h.size ∙ ap length e; written = λ k l. h.written (omega (arith, k, z)) (rw e (omega (arith, l, z))) ∙ (λ i. pasted (e i) (z i) b) }
 
--- the same of the bytes w' that an output of this ghost name leaves
-pub filled : (b : Bytes) {w w' : Bytes} {name : ℕ} {o o' : Output} → (o.buffer.ghost_name ≡ name) × (o.buffer.now ≡ w) × (o.written ≡ 0) → Puts b o o'
-    → (name ≡ o'.buffer.ghost_name → w' ≡ o'.buffer.now) → Fills b w w' o'.written
-filled b (i, e, z) h left = rw (left (sym (h.same_buffer ∙ i))) (fills b e z h)
+-- the same, of an output that was made of the buffer: d is what the buffer is once the output is done with
+pub filled : (b : Bytes) {w d : Bytes} {name : GName} {o o' : Output} → (o.buffer.ghost_name ≡ name) × (o.buffer.now ≡ w) × (o.written ≡ 0) → (name ≡ o'.buffer.ghost_name → d ≡ o'.buffer.now)
+    → Puts b o o' → Fills b w d o'.written
+filled b {w} {o' = o'} new done h = subst (λ d. Fills b w d o'.written) (sym (done (sym (h.same_buffer ∙ new.0)))) (fills b new.1 new.2 h)
 
 -- The end of a call: the bytes were put into some buffer from its start on, for their length n, and f is the test of such a length
 

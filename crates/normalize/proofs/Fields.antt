@@ -1,5 +1,5 @@
 -- A field at a depth: the column that it is, or those of its children.
-use Prim.Native.Nat.{ℕ, zero, suc, ◌+◌, ◌≤◌, ◌<◌}
+use Prim.Native.Nat.{ℕ, zero, suc, ◌+◌, ◌<◌}
 use native.Mathlib.Omega.{arith}
 use mathlib.Core.Path.{◌≡◌, refl, sym, ap, ap₂, subst, ◌∙◌}
 use mathlib.Core.List.{List, [], ◌∷◌, ◌++◌, append_assoc, append-nil}
@@ -15,6 +15,7 @@ use Rattle.model.specs.WellFormed.{WellFormedParams, LaidOut}
 use Rattle.model.specs.Schema.{lift, plain_head, join, expand}
 use Rattle.model.proofs.Lists.{and_true}
 use Rattle.model.proofs.Normalized.{lift_bytes, join_same, expand_children, expand_itself}
+use Rattle.buffer.specs.declared.Output.{Output}
 use Rattle.buffer.specs.Puts.{Puts}
 use Rattle.buffer.proofs.Puts.{puts_same, puts_join}
 use Rattle.walk.specs.Stands.{Stands, Skips, SkipsType}
@@ -27,16 +28,16 @@ use Rattle.normalize.proofs.Names.{prefix_snoc, above_longer}
 use Rattle.normalize.proofs.Columns.{expands_when}
 
 -- what `put_head` ensures
-abbrev PutsHead : (s separator : Bytes) (path : List ℕ) (place : ℕ) (w : Bytes) (p : ℕ) (w' : Bytes) (q : ℕ) → Type 0
-PutsHead s separator path place w p w' q =
+abbrev PutsHead : (s separator : Bytes) (path : List ℕ) (place : ℕ) (o o' : Output) → Type 0
+PutsHead s separator path place o o' =
     (hs : List Head) (h : Head) → Above s path hs → Stands s place (head_bytes h)
-    → Puts (head_bytes (plain_head (prefix separator hs ++ h.name) h)) w p w' q
+    → Puts (head_bytes (plain_head (prefix separator hs ++ h.name) h)) o o'
 
-module _ {s : Bytes} (separator : Bytes) {path : List ℕ} {w : Bytes} {from : Reach} where
-  pub column_expanded : {typed end : ℕ} {w₁ w₂ : Bytes} {q r d : ℕ} → ((h : Head) → Skips s from.place (head_bytes h) typed) → SkipsType s typed max_levels end
-      → PutsHead s separator path from.place w from.written w₁ q
-      → ((b : Bytes) → Stands s typed b → end ≡ typed + length b → Puts b w₁ q w₂ r) → (from.count < max_sheet_bytes → d ≡ from.count + 1)
-      → ExpandsColumn s separator path w from w₂ (record { place = end; written = r; count = d })
+module _ {s : Bytes} (separator : Bytes) {path : List ℕ} {o : Output} {from : Reach} where
+  pub column_expanded : {typed end d : ℕ} {o₁ o₂ : Output} → ((h : Head) → Skips s from.place (head_bytes h) typed) → SkipsType s typed max_levels end
+      → PutsHead s separator path from.place o o₁
+      → ((b : Bytes) → Stands s typed b → end ≡ typed + length b → Puts b o₁ o₂) → (from.count < max_sheet_bytes → d ≡ from.count + 1)
+      → ExpandsColumn s separator path o o₂ from (record { place = end; count = d })
   unfolding field_bytes
   column_expanded i j f g n l up hs x h e a z =
       let t = x.data_type in
@@ -74,12 +75,6 @@ children_columns separator maxLevel place l path up hs h ks = join_same _ _ (λ 
         ap (λ b. b ++ m) (prefix_snoc separator hs h ∙ sym (append_assoc (prefix separator hs) h.name separator))
         ∙ append_assoc (prefix separator hs ++ h.name) separator m
 
--- no field is so deep
-pub no_level : {s : Bytes} (separator : Bytes) (maxLevel : ℕ) (path : List ℕ) {w : Bytes} {from : Reach} {w' : Bytes} {to : Reach}
-    → max_levels ≤ length path → ExpandsField s separator maxLevel path w from w' to
-no_level separator maxLevel path h zero up hs f k e a z = absurd z
-no_level separator maxLevel path h (suc l) up hs f k e a z = absurd (omega (arith, h, k))
-
 -- whether a field is expanded, from its type's code
 module _ {s : Bytes} (separator : Bytes) (maxLevel : ℕ) (path : List ℕ) (from : Reach) {typed code depth : ℕ} {t : Bool}
     (skip : (h : Head) → Skips s from.place (head_bytes h) typed) (c : code ≡ get_or s typed 0) (d : depth ≡ length path)
@@ -89,18 +84,18 @@ module _ {s : Bytes} (separator : Bytes) (maxLevel : ℕ) (path : List ℕ) (fro
   tested l f st =
       ap₂ (λ n d. eqb n Struct && (eqb maxLevel 0 || ltb d maxLevel)) (sym (c ∙ code_stands l f.data_type (type_stands (suc l) f skip st))) (sym d) ∙ sym test
 
-  module _ {w w' : Bytes} {to : Reach} where
-    pub field_itself : t ≡ false → ExpandsColumn s separator path w from w' to → ExpandsField s separator maxLevel path w from w' to
+  module _ {o o' : Output} {to : Reach} where
+    pub field_itself : t ≡ false → ExpandsColumn s separator path o o' from to → ExpandsField s separator maxLevel path o o' from to
     field_itself n g zero up hs f k e a z = absurd z
     field_itself n g (suc l) up hs f k e a z =
         expands_when λ st.
-        subst (λ cs. Expands s (field_bytes (type_bytes (suc l)) f) cs w from w' to)
+        subst (λ cs. Expands s (field_bytes (type_bytes (suc l)) f) cs o o' from to)
         (sym (expand_itself separator maxLevel l up (length path) _ _ f.data_type (tested l f st ∙ n)))
         (g (suc l) up hs f k e a z)
 
     pub field_expanded : {counted first n : ℕ} {longer : List ℕ} → t ≡ true → longer ≡ path ++ (from.place ∷ []) → Ahead s typed 1 counted → Ahead s counted 2 first → n ≡ two_at s counted
-        → ExpandsFields s separator maxLevel longer n w (record { place = first; written = from.written; count = from.count }) w' to
-        → ExpandsField s separator maxLevel path w from w' to
+        → ExpandsFields s separator maxLevel longer n o o' (record { place = first; count = from.count }) to
+        → ExpandsField s separator maxLevel path o o' from to
     unfolding field_bytes with_count u16
     field_expanded y p i j m g zero up hs f k e a z = absurd z
     field_expanded {counted} {first} {n} {longer} y p i j m g (suc l) up hs f k e a z =
@@ -112,7 +107,7 @@ module _ {s : Bytes} (separator : Bytes) (maxLevel : ℕ) (path : List ℕ) (fro
         let u : Stands s counted (with_count (field_bytes (type_bytes l)) ks) =
         stands_behind (skip_ahead (Struct ∷ []) refl i.1) (subst (Stands s typed) b (type_stands (suc l) f skip st)) in
         let above = above_longer f.head a (head_stands (suc l) f st) in
-        let fields = subst (λ q. ExpandsFields s separator maxLevel q n w (record { place = first; written = from.written; count = from.count }) w' to) p g in
+        let fields = subst (λ q. ExpandsFields s separator maxLevel q n o o' (record { place = first; count = from.count }) to) p g in
         let inner = fields l (λ v. up (lift l v)) (hs ++ (f.head ∷ [])) ks (omega (arith, k, length-append path (from.place ∷ []))) (λ v. e (lift l v) ∙ lift_bytes l v) above
         (sym (m ∙ count_stands (field_bytes (type_bytes l)) ks u)) z.2 in
         let v = elements_stand (field_bytes (type_bytes l)) ks j u in
@@ -122,7 +117,7 @@ module _ {s : Bytes} (separator : Bytes) (maxLevel : ℕ) (path : List ℕ) (fro
         record {
           behind = λ st h. inner.behind v h ∙ (skip_join (skip f.head) whole).behind st;
           adds = λ st.
-              subst (λ cs. Adds cs w from.written from.count w' to.written to.count)
+              subst (λ cs. Adds cs o o' from.count to.count)
               (children_columns separator maxLevel from.place l path (λ v. up (lift l v)) hs f.head ks ∙ sym (expand_children separator maxLevel l up (length path) _ _ x same))
               (inner.adds v);
         }

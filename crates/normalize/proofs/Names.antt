@@ -1,5 +1,5 @@
 -- The name of a column: the names of the fields above, each with the separator behind it, then the field's own.
-use Prim.Native.Nat.{ℕ, ◌+◌, ◌/◌, ◌%◌, ◌≤◌, ◌<◌}
+use Prim.Native.Nat.{ℕ, ◌+◌, ◌/◌, ◌%◌, ◌<◌}
 use native.Mathlib.Omega.{arith}
 use native.Mathlib.Numerals.{add-one}
 use mathlib.Core.Path.{◌≡◌, refl, sym, ap, ap₂, subst, subst₂, ◌∙◌}
@@ -7,7 +7,7 @@ use mathlib.Core.List.{List, [], ◌∷◌, ◌++◌, append-nil}
 use mathlib.Core.Bool.{Bool, true, false}
 use lib.ListN.{length, take, get_or, length-append}
 use lib.Dec.{eqb, leb}
-use lib.Seq.{take_all, take-suc, take_at, get_or_at, get_or-take}
+use lib.Seq.{take-suc, take_at, get_or_at, get_or-take}
 use borrow.Author.Tests.{eqb-true, eqb-false, leb-true, leb-false}
 use Rattle.model.specs.Numbers.{max_sheet_bytes}
 use Rattle.model.specs.Bytes.{Bytes, u16, bit, flag}
@@ -15,6 +15,7 @@ use Rattle.model.specs.Tree.{Head, blank}
 use Rattle.model.specs.Sheet.{front_bytes, text_bytes, head_bytes}
 use Rattle.model.specs.Schema.{plain_head, join}
 use Rattle.model.proofs.Normalized.{join_append}
+use Rattle.buffer.specs.declared.Output.{Output}
 use Rattle.buffer.specs.Puts.{Puts}
 use Rattle.buffer.proofs.Puts.{puts_none, puts_same, puts_join, puts_two}
 use Rattle.walk.specs.Stands.{Stands, Skips}
@@ -25,19 +26,19 @@ use Rattle.normalize.specs.Expands.{Above, prefix, Measures}
 -- The field's own name
 
 -- what `put_own_name` ensures
-abbrev PutsOwn : (s : Bytes) (place : ℕ) (w : Bytes) (p : ℕ) (w' : Bytes) (q : ℕ) → Type 0
-PutsOwn s place w p w' q = (h : Head) → Stands s place (head_bytes h) → Puts h.name w p w' q
+abbrev PutsOwn : (s : Bytes) (place : ℕ) (o o' : Output) → Type 0
+PutsOwn s place o o' = (h : Head) → Stands s place (head_bytes h) → Puts h.name o o'
 
-module _ {s : Bytes} {place map : ℕ} {set : Bool} (e : map ≡ get_or s place 0) (k : set ≡ bit 2 map) {w : Bytes} {p : ℕ} where
-  pub own_named : {text body end : ℕ} {w' : Bytes} {q : ℕ} → set ≡ true → Ahead s place 1 text → Ahead s text 2 body → ((t : Bytes) → Skips s text (text_bytes t) end)
-      → ((b : Bytes) → Stands s body b → end ≡ body + length b → Puts b w p w' q) → PutsOwn s place w p w' q
+module _ {s : Bytes} {place map : ℕ} {set : Bool} (e : map ≡ get_or s place 0) (k : set ≡ bit 2 map) {o : Output} where
+  pub own_named : {text body end : ℕ} {o' : Output} → set ≡ true → Ahead s place 1 text → Ahead s text 2 body → ((t : Bytes) → Skips s text (text_bytes t) end)
+      → ((b : Bytes) → Stands s body b → end ≡ body + length b → Puts b o o') → PutsOwn s place o o'
   unfolding text_bytes u16
   own_named b i j l f h st =
       let t = name_stands e (bit_true 2 map (sym k ∙ b)) i h st in
       let u = body_stands h.name j t in
       f h.name u.1 (omega (arith, (l h.name).behind t, u.0))
 
-  pub own_unnamed : set ≡ false → PutsOwn s place w p w p
+  pub own_unnamed : set ≡ false → PutsOwn s place o o
   own_unnamed b h st = puts_same (sym (no_name e (bit_false 2 map (sym k ∙ b)) h st)) puts_none
 
 -- The names above
@@ -69,34 +70,27 @@ above_longer {s} {path} {place} {hs} h a st = record {
         let l : i < length path = omega (arith, j, eqb-false i (length path) e) in
         subst₂ (λ m x. Stands s m (head_bytes x)) (before path place 0 i l) (before hs h blank i (omega (arith, l, a.count))) (a.stand i l)
 
--- the loop: the names of so many are written
-pub record Prefixed (s separator : Bytes) (path : List ℕ) (w₀ : Bytes) (p₀ : ℕ) (w : Bytes) (p i : ℕ) : Type 0 where
-  pub puts : (hs : List Head) → Above s path hs → Puts (prefix separator (take i hs)) w₀ p₀ w p
+-- the loop: the names of so many are put
+pub record Prefixed (s separator : Bytes) (path : List ℕ) (o o' : Output) (i : ℕ) : Type 0 where
+  pub puts : (hs : List Head) → Above s path hs → Puts (prefix separator (take i hs)) o o'
 
-module _ {s separator : Bytes} {path : List ℕ} {w₀ : Bytes} {p₀ : ℕ} where
-  pub prefixed_begin : Prefixed s separator path w₀ p₀ w₀ p₀ 0
+module _ {s separator : Bytes} {path : List ℕ} {o : Output} where
+  pub prefixed_begin : Prefixed s separator path o o 0
   unfolding prefix join
   prefixed_begin = record { puts = λ hs a. puts_none }
 
-  module _ {w : Bytes} {p i : ℕ} (k : Prefixed s separator path w₀ p₀ w p i) where
-    pub prefixed_again : {places : List ℕ} {w₁ w₂ : Bytes} {q r : ℕ} → places ≡ path → i < length places → PutsOwn s (get_or places i 0) w p w₁ q → Puts separator w₁ q w₂ r
-        → Prefixed s separator path w₀ p₀ w₂ r (i + 1)
-    prefixed_again {places} {w₁} {w₂} {q} {r} e l f' g = record {
+  module _ {o₁ : Output} {i : ℕ} (k : Prefixed s separator path o o₁ i) where
+    pub prefixed_again : {places : List ℕ} {o₂ o₃ : Output} → places ≡ path → i < length places → PutsOwn s (get_or places i 0) o₁ o₂ → Puts separator o₂ o₃
+        → Prefixed s separator path o o₃ (i + 1)
+    prefixed_again {places} {o₂} e l f' g = record {
       puts = λ hs a.
           let x = get_or hs i blank in
           let h : i < length path = subst (λ ps. i < length ps) e l in
-          let f = subst (λ ps. PutsOwn s (get_or ps i 0) w p w₁ q) e f' in
+          let f = subst (λ ps. PutsOwn s (get_or ps i 0) o₁ o₂) e f' in
           let all : prefix separator (take i hs) ++ (x.name ++ separator) ≡ prefix separator (take (i + 1) hs) =
           sym (ap (λ n. prefix separator (take n hs)) (add-one i) ∙ ap (prefix separator) (take-suc hs i blank (omega (arith, h, a.count))) ∙ prefix_snoc separator (take i hs) x) in
           puts_same all (puts_join (prefix separator (take i hs)) (x.name ++ separator) (k.puts hs a) (puts_join x.name separator (f x (a.stand i h)) g));
     }
-
-    pub prefixed_done : {places : List ℕ} → places ≡ path → length places ≤ i → (hs : List Head) → Above s path hs → Puts (prefix separator hs) w₀ p₀ w p
-    prefixed_done e h hs a = subst (λ xs. Puts (prefix separator xs) w₀ p₀ w p) (take_all i hs (omega (arith, a.count, ap length e, h))) (k.puts hs a)
-
--- The length of a name, from its bytes as they are put from 0 on
-pub name_measured : (b : Bytes) {w w' : Bytes} {q : ℕ} → Puts b w 0 w' q → Measures b q
-name_measured b f = record { inside = λ h. omega (arith, f.inside (omega (arith, h))); beyond = λ h. f.beyond (omega (arith, h)) }
 
 -- A column's head: the map, and behind it the name with its length, if it is not empty
 
@@ -112,14 +106,14 @@ named_bytes : (x : ℕ) (b : Bytes) (own : Head) → head_bytes (plain_head (x �
 unfolding front_bytes head_bytes text_bytes
 named_bytes x b own = ap₂ ◌∷◌ (omega arith) (append-nil ((u16 (length (x ∷ b)) ++ (x ∷ b)) ++ []) ∙ append-nil (u16 (length (x ∷ b)) ++ (x ∷ b)))
 
-module _ (own : Head) {k v : ℕ} {w : Bytes} {p : ℕ} where
-  pub head_unnamed : (b : Bytes) → Measures b k → {w' : Bytes} {q : ℕ} → k ≡ 0 → v ≡ flag 1 own.nullable → Puts (v ∷ []) w p w' q → Puts (head_bytes (plain_head b own)) w p w' q
+module _ (own : Head) {k v : ℕ} {o : Output} where
+  pub head_unnamed : (b : Bytes) → Measures b k → {o' : Output} → k ≡ 0 → v ≡ flag 1 own.nullable → Puts (v ∷ []) o o' → Puts (head_bytes (plain_head b own)) o o'
   unfolding front_bytes head_bytes
   head_unnamed [] m z e f = puts_same (ap (λ x. x ∷ []) (omega (arith, e))) f
   head_unnamed (x ∷ b) m z e f = absurd (omega (arith, measured_none (x ∷ b) m z))
 
-  pub head_named : (b : Bytes) → Measures b k → {w₁ w₂ w₃ : Bytes} {q₁ q₂ q₃ : ℕ} → (k ≡ 0 → ⊥) → v ≡ flag 1 own.nullable + 4
-      → Puts (v ∷ []) w p w₁ q₁ → Puts (k % 256 ∷ k / 256 % 256 ∷ []) w₁ q₁ w₂ q₂ → Puts b w₂ q₂ w₃ q₃ → Puts (head_bytes (plain_head b own)) w p w₃ q₃
+  pub head_named : (b : Bytes) → Measures b k → {o₁ o₂ o₃ : Output} → (k ≡ 0 → ⊥) → v ≡ flag 1 own.nullable + 4
+      → Puts (v ∷ []) o o₁ → Puts (k % 256 ∷ k / 256 % 256 ∷ []) o₁ o₂ → Puts b o₂ o₃ → Puts (head_bytes (plain_head b own)) o o₃
   head_named [] m z e f g h = absurd (z (m.inside (omega arith)))
   head_named (x ∷ b) m z e f g h =
       let name = x ∷ b in

@@ -1,4 +1,5 @@
 -- The sheet of the normalised schema, and `normalize` as a call.
+use base.Fml.{GName}
 use Prim.Native.Nat.{ℕ, ◌+◌, ◌%◌, ◌/◌, ◌≤◌, ◌<◌}
 use native.Mathlib.Omega.{arith}
 use mathlib.Core.Path.{◌≡◌, refl, sym, ap, subst, ◌∙◌}
@@ -24,9 +25,10 @@ use Rattle.text.specs.Text.{text_of}
 use Rattle.buffer.specs.declared.refusal.Number.{Number}
 use Rattle.buffer.specs.declared.refusal.Refusal.{Refusal}
 use Rattle.buffer.specs.Refusals.{numbered, without_place}
-use Rattle.buffer.specs.Puts.{Puts, length_number, unless_refused}
+use Rattle.buffer.specs.declared.Output.{Output}
+use Rattle.buffer.specs.Puts.{Puts, Fills, length_number, unless_refused}
 use Rattle.buffer.specs.Leaves.{leaves}
-use Rattle.buffer.proofs.Puts.{puts_join, puts_two, put_refused, put_accepted}
+use Rattle.buffer.proofs.Puts.{puts_join, puts_two, filled, put_refused, put_accepted}
 use Rattle.buffer.proofs.Ends.{leaves_refusal}
 use Rattle.walk.specs.Stands.{Stands, ColumnsAt}
 use Rattle.walk.proofs.Standing.{whole_stands}
@@ -35,13 +37,13 @@ use Rattle.normalize.specs.declared.Reach.{Reach}
 use Rattle.normalize.specs.Expands.{prefix, Measures, Adds, ExpandsFields, normalized, PutsColumns, PutsNormalized, sheet_length}
 
 -- all columns of a sheet that was read: no field is above them
-pub columns_put : {s : Bytes} (separator : Bytes) (maxLevel : ℕ) {path : List ℕ} {n first : ℕ} {w : Bytes} {p : ℕ} {w' : Bytes} {to : Reach} → path ≡ []
+pub columns_put : {s : Bytes} (separator : Bytes) (maxLevel : ℕ) {path : List ℕ} {n first : ℕ} {o o' : Output} {to : Reach} → path ≡ []
     → ((x : Schema) → Stands s 0 (sheet_bytes x) → ColumnsAt s 0 x n first)
-    → ExpandsFields s separator maxLevel path n w (record { place = first; written = p; count = 0 }) w' to → PutsColumns s separator maxLevel w p w' to
+    → ExpandsFields s separator maxLevel path n o o' (record { place = first; count = 0 }) to → PutsColumns s separator maxLevel o o' to.count
 unfolding normalized_columns prefix join
-columns_put {s} separator maxLevel {path} {n} {first} {w} {p} {w'} {to} none f g x fits e =
+columns_put {s} separator maxLevel {path} {n} {first} {o} {o'} {to} none f g x fits e =
     let a = f x (whole_stands s (sheet_bytes x) e) in
-    let fields = subst (λ q. ExpandsFields s separator maxLevel q n w (record { place = first; written = p; count = 0 }) w' to) none g in
+    let fields = subst (λ q. ExpandsFields s separator maxLevel q n o o' (record { place = first; count = 0 }) to) none g in
     (fields max_levels (λ t. t) [] x.columns (omega arith) (λ t. refl)
     (record { count = refl; stand = λ i h. absurd (omega (arith, h)) })
     (sym a.count) (columns_laid_out x fits.well_formed)).adds a.stands
@@ -51,14 +53,14 @@ columns_put {s} separator maxLevel {path} {n} {first} {w} {p} {w'} {to} none f g
 abbrev plain : List (Field max_levels) → Schema
 plain cs = record { metadata = []; columns = cs }
 
-module _ {w : Bytes} {n : ℕ} where
-  pub none_put : (cs : List (Field max_levels)) {w' : Bytes} {r : ℕ} → n ≡ 0 → n ≡ length cs → Puts (0 ∷ []) w 0 w' r → Puts (sheet_bytes (plain cs)) w 0 w' r
+module _ {o : Output} {n : ℕ} where
+  pub none_put : (cs : List (Field max_levels)) {o' : Output} → n ≡ 0 → n ≡ length cs → Puts (0 ∷ []) o o' → Puts (sheet_bytes (plain cs)) o o'
   unfolding sheet_bytes
   none_put [] z e f = f
   none_put (c ∷ cs) z e f = absurd (omega (arith, z, e))
 
-  pub some_put : (cs : List (Field max_levels)) {w₁ w₂ w₃ : Bytes} {q r t d : ℕ} → (n ≡ 0 → ⊥) → n ≡ length cs
-      → Puts (2 ∷ []) w 0 w₁ q → Puts (n % 256 ∷ n / 256 % 256 ∷ []) w₁ q w₂ r → Adds cs w₂ r 0 w₃ t d → Puts (sheet_bytes (plain cs)) w 0 w₃ t
+  pub some_put : (cs : List (Field max_levels)) {o₁ o₂ o₃ : Output} {d : ℕ} → (n ≡ 0 → ⊥) → n ≡ length cs
+      → Puts (2 ∷ []) o o₁ → Puts (n % 256 ∷ n / 256 % 256 ∷ []) o₁ o₂ → Adds cs o₂ o₃ 0 d → Puts (sheet_bytes (plain cs)) o o₃
   unfolding sheet_bytes with_count
   some_put [] z e f g h = absurd (z e)
   some_put (c ∷ cs) z e f g h =
@@ -66,7 +68,7 @@ module _ {w : Bytes} {n : ℕ} where
       let b = each column_bytes ds in
       puts_join (2 ∷ []) (u16 (length ds) ++ b) f (puts_two (length ds) b (λ i. (e, omega (arith, i, each_column ds))) g h.puts)
 
--- Its length and the number of its columns, from the columns as they are put from 3 on
+-- Its length and the number of its columns, from the columns as they are put behind three bytes
 
 pub short_sheet : (q : ℕ) → q ≤ 3 → sheet_length q ≡ 1
 unfolding sheet_length
@@ -76,39 +78,40 @@ pub long_sheet : (q : ℕ) → 3 < q → sheet_length q ≡ q
 unfolding sheet_length
 long_sheet q h = choose_false _ _ _ (lt-leb q 3 h)
 
-module _ {w : Bytes} {w' : Bytes} {n q d : ℕ} (e : n ≡ sheet_length q) where
-  pub sheet_measured : (cs : List (Field max_levels)) → Adds cs w 3 0 w' q d → Measures (sheet_bytes (plain cs)) n
+module _ {o o' : Output} {n d : ℕ} (three : o.written ≡ 3) (e : n ≡ sheet_length o'.written) where
+  pub sheet_measured : (cs : List (Field max_levels)) → Adds cs o o' 0 d → Measures (sheet_bytes (plain cs)) n
   unfolding sheet_bytes with_count u16 sheet_length choose
   sheet_measured [] f =
-      let k : n ≡ 1 = e ∙ ap sheet_length (f.puts.inside (omega arith)) in
+      let i : o'.written ≡ 3 = omega (arith, three, f.puts.inside (omega (arith, three))) in
+      let k : n ≡ 1 = e ∙ ap sheet_length i in
       record { inside = λ h. k; beyond = λ h. absurd (omega (arith, h)) }
   sheet_measured (c ∷ cs) f =
       let some = each_column (c ∷ cs) in
       record {
         inside = λ h.
-            let i = f.puts.inside (omega (arith, h)) in
-            omega (arith, e, i, long_sheet q (omega (arith, i, some)));
+            let i = f.puts.inside (omega (arith, three, h)) in
+            omega (arith, three, e, i, long_sheet o'.written (omega (arith, three, i, some)));
         beyond = λ h.
-            let i = f.puts.beyond (omega (arith, h)) in
-            omega (arith, e, i, long_sheet q (omega (arith, i)));
+            let i = f.puts.beyond (omega (arith, three, h)) in
+            omega (arith, e, i, long_sheet o'.written (omega (arith, i)));
       }
 
-  pub columns_counted : (cs : List (Field max_levels)) → Adds cs w 3 0 w' q d → n ≤ max_sheet_bytes → d ≡ length cs
-  columns_counted cs f h = go (leb (3 + length (each column_bytes cs)) max_sheet_bytes) refl
+  pub columns_counted : (cs : List (Field max_levels)) → Adds cs o o' 0 d → n ≤ max_sheet_bytes → d ≡ length cs
+  columns_counted cs f h = go (leb (o.written + length (each column_bytes cs)) max_sheet_bytes) refl
     where
-      go : (t : Bool) → leb (3 + length (each column_bytes cs)) max_sheet_bytes ≡ t → d ≡ length cs
+      go : (t : Bool) → leb (o.written + length (each column_bytes cs)) max_sheet_bytes ≡ t → d ≡ length cs
       go true i =
-          let j = leb-true (3 + length (each column_bytes cs)) max_sheet_bytes i in
+          let j = leb-true (o.written + length (each column_bytes cs)) max_sheet_bytes i in
           omega (arith, f.counts j (omega (arith, j, each_column cs)))
       go false i =
-          let j = f.puts.beyond (leb-false (3 + length (each column_bytes cs)) max_sheet_bytes i) in
-          absurd (omega (arith, e, h, j, long_sheet q (omega (arith, j))))
+          let j = f.puts.beyond (leb-false (o.written + length (each column_bytes cs)) max_sheet_bytes i) in
+          absurd (omega (arith, e, h, j, long_sheet o'.written (omega (arith, j))))
 
 -- The call
 
 -- as put into a buffer of no bytes
-measured_puts : (b : Bytes) {n : ℕ} → Measures b n → 1 ≤ length b → Puts b [] 0 [] n
-measured_puts b m h = record {
+measured_fills : (b : Bytes) {n : ℕ} → Measures b n → 1 ≤ length b → Fills b [] [] n
+measured_fills b m h = record {
   inside = λ k. omega (arith, m.inside (omega (arith, k)));
   beyond = λ k. m.beyond (omega (arith, k));
   size = refl;
@@ -158,8 +161,8 @@ module _ (s separator : Bytes) (maxLevel : ℕ) (cleared answer : Bytes) where
         ap (λ w. leaves r answer w) z ∙ leaves_refusal (without_place Number.SeparatorNotUtf8) cleared answer k
         ∙ sym (ap (λ o. settled o cleared answer) (broken_answer x separator maxLevel h))
 
-    module _ (h : utf8 separator ≡ true) {w w' : Bytes} (to : Reach) (f : PutsColumns s separator maxLevel w 3 w' to)
-        {n : ℕ} (l : n ≡ sheet_length to.written) where
+    module _ (h : utf8 separator ≡ true) {o o' : Output} {count : ℕ} (three : o.written ≡ 3) (f : PutsColumns s separator maxLevel o o' count)
+        {n : ℕ} (l : n ≡ sheet_length o'.written) where
       sheet_ends : (r : Result ℕ Refusal) (answer' : Bytes)
           → ((x : Schema) → Fits x → s ≡ sheet_bytes x → leaves r answer' cleared ≡ acceptance (sheet_bytes (normalized separator maxLevel x)) cleared answer)
           → Ends r answer' after
@@ -167,18 +170,18 @@ module _ (s separator : Bytes) (maxLevel : ℕ) (cleared answer : Bytes) where
       sheet_ends r answer' k x fits i =
           ap (λ w. leaves r answer' w) z ∙ k x fits i ∙ sym (ap (λ o. settled o cleared answer) (valid_answer x separator maxLevel h))
 
-      measured : (x : Schema) → Fits x → s ≡ sheet_bytes x → Puts (sheet_bytes (normalized separator maxLevel x)) [] 0 [] n
+      measured : (x : Schema) → Fits x → s ≡ sheet_bytes x → Fills (sheet_bytes (normalized separator maxLevel x)) [] [] n
       unfolding sheet_bytes
-      measured x fits i = measured_puts _ (sheet_measured l _ (f x fits i)) (omega arith)
+      measured x fits i = measured_fills _ (sheet_measured three l _ (f x fits i)) (omega arith)
 
       module _ {v : Result Unit Refusal} (m : numbered v ≡ unless_refused (length_number n (length answer))) where
         -- 30 and 31
         pub length_refused : {r : Result ℕ Refusal} {y : Refusal} → v ≡ Err y → r ≡ Err y → Ends r answer after
-        length_refused {r} o k = sheet_ends r answer λ x fits i. put_refused _ (measured x fits i) cleared answer m o k
+        length_refused {r} e k = sheet_ends r answer λ x fits i. put_refused _ (measured x fits i) cleared answer m e k
 
-        pub length_accepted : {r : Result ℕ Refusal} {answer' : Bytes} {q : ℕ} → v ≡ Ok tt → PutsNormalized s separator maxLevel to.count answer answer' q → r ≡ Ok n
-            → Ends r answer' after
-        length_accepted {r} {answer'} o g k =
+        pub length_accepted : {r : Result ℕ Refusal} {answer' : Bytes} {p p' : Output} {name : GName} → v ≡ Ok tt → (p.buffer.ghost_name ≡ name) × (p.buffer.now ≡ answer) × (p.written ≡ 0)
+            → (name ≡ p'.buffer.ghost_name → answer' ≡ p'.buffer.now) → PutsNormalized s separator maxLevel count p p' → r ≡ Ok n → Ends r answer' after
+        length_accepted {r} {answer'} e new done g k =
             sheet_ends r answer' λ x fits i.
-            put_accepted _ (measured x fits i) cleared answer m o
-            (g x fits i (columns_counted l _ (f x fits i) (fitting_length n (length answer) m o))) k
+            put_accepted _ (measured x fits i) cleared answer m e
+            (filled _ new done (g x fits i (columns_counted three l _ (f x fits i) (fitting_length n (length answer) m e)))) k

@@ -6,6 +6,7 @@ use Rattle.model.specs.Tree.{Head, DataType, Field, Schema, blank}
 use Rattle.model.specs.Sheet.{each, head_bytes, field_bytes, type_bytes, column_bytes, sheet_bytes}
 use Rattle.model.specs.WellFormed.{LaidOut, Fits}
 use Rattle.model.specs.Schema.{plain_column, join, expand, normalized_columns}
+use Rattle.buffer.specs.declared.Output.{Output}
 use Rattle.buffer.specs.Puts.{Puts}
 use Rattle.walk.specs.Stands.{Stands, AllLaidOut}
 use Rattle.normalize.specs.declared.Reach.{Reach}
@@ -28,16 +29,16 @@ pub record Measures (b : Bytes) (r : ℕ) : Type 0 where
 
 -- Columns
 
--- The columns are written over w from p on, and counted on from c: w' is the buffer then, q the position behind them, and d their number.
--- Nothing is said of the number where they pass the longest answer.
-pub record Adds (cs : List (Field max_levels)) (w : Bytes) (p c : ℕ) (w' : Bytes) (q d : ℕ) : Type 0 where
-  pub puts : Puts (each column_bytes cs) w p w' q
-  pub counts : p + length (each column_bytes cs) ≤ max_sheet_bytes → c + length cs ≤ max_sheet_bytes → d ≡ c + length cs
+-- The columns are put, and counted on from c: o' is the output then, and d their number. Nothing is said of the number where they pass the
+-- longest answer.
+pub record Adds (cs : List (Field max_levels)) (o o' : Output) (c d : ℕ) : Type 0 where
+  pub puts : Puts (each column_bytes cs) o o'
+  pub counts : o.written + length (each column_bytes cs) ≤ max_sheet_bytes → c + length cs ≤ max_sheet_bytes → d ≡ c + length cs
 
 -- Where the bytes b stand at the place, the walk goes past them and adds the columns. It may stop once they pass the longest answer.
-pub record Expands (s b : Bytes) (cs : List (Field max_levels)) (w : Bytes) (from : Reach) (w' : Bytes) (to : Reach) : Type 0 where
-  pub behind : Stands s from.place b → to.written ≤ max_sheet_bytes → to.place ≡ from.place + length b
-  pub adds : Stands s from.place b → Adds cs w from.written from.count w' to.written to.count
+pub record Expands (s b : Bytes) (cs : List (Field max_levels)) (o o' : Output) (from to : Reach) : Type 0 where
+  pub behind : Stands s from.place b → o'.written ≤ max_sheet_bytes → to.place ≡ from.place + length b
+  pub adds : Stands s from.place b → Adds cs o o' from.count to.count
 
 -- a type of fewer levels is written as a column's by the same bytes
 abbrev pub Lifts : (l : ℕ) → (DataType l → DataType max_levels) → Type 0
@@ -54,24 +55,24 @@ module _ (separator : Bytes) where
 
 -- What the walk does below the fields of a path, for any field with those above it
 
-abbrev pub ExpandsColumn : (s separator : Bytes) (path : List ℕ) (w : Bytes) → Reach → Bytes → Reach → Type 0
-ExpandsColumn s separator path w from w' to =
+abbrev pub ExpandsColumn : (s separator : Bytes) (path : List ℕ) (o o' : Output) (from to : Reach) → Type 0
+ExpandsColumn s separator path o o' from to =
     (l : ℕ) (up : DataType l → DataType max_levels) (hs : List Head) (f : Field l)
     → l + length path ≤ max_levels → Lifts l up → Above s path hs → LaidOut l f.data_type
-    → Expands s (field_bytes (type_bytes l) f) (own_column separator l up hs f ∷ []) w from w' to
+    → Expands s (field_bytes (type_bytes l) f) (own_column separator l up hs f ∷ []) o o' from to
 
-abbrev pub ExpandsField : (s separator : Bytes) (maxLevel : ℕ) (path : List ℕ) (w : Bytes) → Reach → Bytes → Reach → Type 0
-ExpandsField s separator maxLevel path w from w' to =
+abbrev pub ExpandsField : (s separator : Bytes) (maxLevel : ℕ) (path : List ℕ) (o o' : Output) (from to : Reach) → Type 0
+ExpandsField s separator maxLevel path o o' from to =
     (l : ℕ) (up : DataType l → DataType max_levels) (hs : List Head) (f : Field l)
     → l + length path ≤ max_levels → Lifts l up → Above s path hs → LaidOut l f.data_type
-    → Expands s (field_bytes (type_bytes l) f) (columns_of separator maxLevel (length path) l up hs f) w from w' to
+    → Expands s (field_bytes (type_bytes l) f) (columns_of separator maxLevel (length path) l up hs f) o o' from to
 
 -- so many fields
-abbrev pub ExpandsFields : (s separator : Bytes) (maxLevel : ℕ) (path : List ℕ) (count : ℕ) (w : Bytes) → Reach → Bytes → Reach → Type 0
-ExpandsFields s separator maxLevel path count w from w' to =
+abbrev pub ExpandsFields : (s separator : Bytes) (maxLevel : ℕ) (path : List ℕ) (count : ℕ) (o o' : Output) (from to : Reach) → Type 0
+ExpandsFields s separator maxLevel path count o o' from to =
     (l : ℕ) (up : DataType l → DataType max_levels) (hs : List Head) (ks : List (Field l))
     → l + length path ≤ max_levels → Lifts l up → Above s path hs → length ks ≡ count → AllLaidOut l ks
-    → Expands s (each (field_bytes (type_bytes l)) ks) (join (columns_of separator maxLevel (length path) l up hs) ks) w from w' to
+    → Expands s (each (field_bytes (type_bytes l)) ks) (join (columns_of separator maxLevel (length path) l up hs) ks) o o' from to
 
 -- The sheet
 
@@ -79,16 +80,16 @@ ExpandsFields s separator maxLevel path count w from w' to =
 abbrev pub normalized : Bytes → ℕ → Schema → Schema
 normalized separator maxLevel x = record { metadata = []; columns = normalized_columns separator maxLevel x.columns }
 
--- where s is the sheet of a schema that was read, its columns are written over w from p on, and counted
-abbrev pub PutsColumns : (s separator : Bytes) (maxLevel : ℕ) (w : Bytes) (p : ℕ) (w' : Bytes) → Reach → Type 0
-PutsColumns s separator maxLevel w p w' to =
-    (x : Schema) → Fits x → s ≡ sheet_bytes x → Adds (normalized_columns separator maxLevel x.columns) w p 0 w' to.written to.count
+-- where s is the sheet of a schema that was read, its columns are put, and n is their number
+abbrev pub PutsColumns : (s separator : Bytes) (maxLevel : ℕ) (o o' : Output) (n : ℕ) → Type 0
+PutsColumns s separator maxLevel o o' n =
+    (x : Schema) → Fits x → s ≡ sheet_bytes x → Adds (normalized_columns separator maxLevel x.columns) o o' 0 n
 
--- and the sheet of the normalised schema from the start on, where so many is the number of its columns
-abbrev pub PutsNormalized : (s separator : Bytes) (maxLevel count : ℕ) (w w' : Bytes) (r : ℕ) → Type 0
-PutsNormalized s separator maxLevel count w w' r =
+-- and the sheet of the normalised schema, where so many is the number of its columns
+abbrev pub PutsNormalized : (s separator : Bytes) (maxLevel count : ℕ) (o o' : Output) → Type 0
+PutsNormalized s separator maxLevel count o o' =
     (x : Schema) → Fits x → s ≡ sheet_bytes x → count ≡ length (normalized_columns separator maxLevel x.columns)
-    → Puts (sheet_bytes (normalized separator maxLevel x)) w 0 w' r
+    → Puts (sheet_bytes (normalized separator maxLevel x)) o o'
 
 -- the length of a sheet without metadata, whose columns behind its map and their count reach so far
 unfoldable pub sheet_length : ℕ → ℕ

@@ -15,17 +15,16 @@ ghost use Rattle.buffer.specs.Leaves.{leaves};
 ghost use Rattle.walk.specs.Stands.{Stands};
 ghost use Rattle.normalize.specs.Expands.{Above, prefix, Measures, ExpandsColumn, ExpandsField, ExpandsFields, PutsColumns, sheet_length, PutsNormalized};
 
-use buffer::{Number, Refusal};
+use buffer::{Number, Output, Refusal};
 use layout::STRUCT;
 use sheet::Cursor;
 use std::marker::Model;
 use walk::Elements;
 
-// How far a walk came: the place in the sheet, the position in the answer, and the number of columns before it.
+// How far a walk came: the place in the sheet, and the number of columns that were put.
 #[derive(Clone, Copy)]
 struct Reach {
     place: usize,
-    written: usize,
     count: usize,
 }
 
@@ -98,70 +97,70 @@ struct Expansion<'a> {
 
 impl Expansion<'_> {
     // The name of the field that stands at a place, without its length.
-    fn put_own_name(&self, w: &mut [u8], pos: usize, at: usize) -> usize
-        ensures { (h : Head) → Stands self.now.sheet.now at (head_bytes h) → Puts h.name w.old pos w.new result }
+    fn put_own_name(&self, out: &mut Output<'_>, at: usize)
+        ensures { (h : Head) → Stands self.now.sheet.now at (head_bytes h) → Puts h.name out.old out.new }
     {
         if walk::bit(walk::byte(self.sheet, at), 2) {
             let text = walk::ahead(self.sheet, at, 1);
             let body = walk::ahead(self.sheet, text, 2);
             let end = walk::skip_text(self.sheet, text);
-            return walk::put_part(w, pos, self.sheet, body, end);
+            walk::put_part(out, self.sheet, body, end);
         }
-        pos
     }
 
     // The names of the fields above, the outermost first, each with the separator behind it.
-    fn put_prefix(&self, w: &mut [u8], pos: usize, path: &Path) -> usize
-        ensures { (hs : List Head) → Above self.now.sheet.now path.now hs → Puts (prefix self.now.separator.now hs) w.old pos w.new result }
+    fn put_prefix(&self, out: &mut Output<'_>, path: &Path)
+        ensures { (hs : List Head) → Above self.now.sheet.now path.now hs → Puts (prefix self.now.separator.now hs) out.old out.new }
     {
-        let mut written = pos;
         for &place in path.places() {
-            let named = self.put_own_name(w, written, place);
-            written = buffer::put(w, named, self.separator);
+            self.put_own_name(out, place);
+            out.put(self.separator);
         }
-        written
     }
 
     // The name of a column, without its length.
-    fn put_name(&self, w: &mut [u8], pos: usize, at: usize, path: &Path) -> usize
-        ensures { (hs : List Head) (h : Head) → Above self.now.sheet.now path.now hs → Stands self.now.sheet.now at (head_bytes h) → Puts (prefix self.now.separator.now hs ++ h.name) w.old pos w.new result }
+    fn put_name(&self, out: &mut Output<'_>, at: usize, path: &Path)
+        ensures { (hs : List Head) (h : Head) → Above self.now.sheet.now path.now hs → Stands self.now.sheet.now at (head_bytes h) → Puts (prefix self.now.separator.now hs ++ h.name) out.old out.new }
     {
-        let own = self.put_prefix(w, pos, path);
-        self.put_own_name(w, own, at)
+        self.put_prefix(out, path);
+        self.put_own_name(out, at);
     }
 
-    // The length of a column's name, which stands before it. A separator may be as long as memory, so it is counted as the name is written.
+    // The length of a column's name, which stands before it. A separator may be as long as memory, so it is counted as the name is put.
     fn name_length(&self, at: usize, path: &Path) -> usize
         ensures { (hs : List Head) (h : Head) → Above self.now.sheet.now path.now hs → Stands self.now.sheet.now at (head_bytes h) → Measures (prefix self.now.separator.now hs ++ h.name) result }
     {
-        self.put_name(&mut [], 0, at, path)
+        let mut out = Output::new(&mut []);
+        self.put_name(&mut out, at, path);
+        out.written
     }
 
     // A column's head: "written columns lose metadata and order flag, keep their own nullability", and lose the dictionary number. A name
     // that comes out empty has its bit clear.
-    fn put_head(&self, w: &mut [u8], pos: usize, at: usize, path: &Path) -> usize
-        ensures { (hs : List Head) (h : Head) → Above self.now.sheet.now path.now hs → Stands self.now.sheet.now at (head_bytes h) → Puts (head_bytes (schemas.plain_head (prefix self.now.separator.now hs ++ h.name) h)) w.old pos w.new result }
+    fn put_head(&self, out: &mut Output<'_>, at: usize, path: &Path)
+        ensures { (hs : List Head) (h : Head) → Above self.now.sheet.now path.now hs → Stands self.now.sheet.now at (head_bytes h) → Puts (head_bytes (schemas.plain_head (prefix self.now.separator.now hs ++ h.name) h)) out.old out.new }
     {
         let nullable = walk::byte(self.sheet, at) % 2;
         let length = self.name_length(at, path);
         if length == 0 {
-            return buffer::put_one(w, pos, nullable as u8);
+            out.put_one(nullable as u8);
+            return;
         }
-        let text = buffer::put_one(w, pos, (nullable + 4) as u8);
-        let body = buffer::put_two(w, text, length);
-        self.put_name(w, body, at, path)
+        out.put_one((nullable + 4) as u8);
+        out.put_two(length);
+        self.put_name(out, at, path);
     }
 
     // A field that is a column itself: its head, then its type as it stands.
-    fn put_column(&self, w: &mut [u8], from: Reach, path: &Path) -> Reach
-        ensures { ExpandsColumn self.now.sheet.now self.now.separator.now path.now w.old from w.new result }
+    fn put_column(&self, out: &mut Output<'_>, from: Reach, path: &Path) -> Reach
+        ensures { ExpandsColumn self.now.sheet.now self.now.separator.now path.now out.old out.new from result }
     {
         let data_type = walk::skip_head(self.sheet, from.place);
-        let end = walk::skip_type(self.sheet, data_type, Cursor::LEVELS);
-        let headed = self.put_head(w, from.written, from.place, path);
+        let place = walk::skip_type(self.sheet, data_type, Cursor::LEVELS);
+        self.put_head(out, from.place, path);
+        walk::put_part(out, self.sheet, data_type, place);
         Reach {
-            place: end,
-            written: walk::put_part(w, headed, self.sheet, data_type, end),
+            place,
             count: from.count.saturating_add(1),
         }
     }
@@ -175,12 +174,12 @@ impl Expansion<'_> {
 
     // A turn of the Rust's loop: a Struct that is expanded becomes the columns of its children, any other field is one column.
     #[cycle(expanding)]
-    fn expand_field(&self, w: &mut [u8], from: Reach, path: &Path) -> Reach
-        ensures { ExpandsField self.now.sheet.now self.now.separator.now self.now.max_level path.now w.old from w.new result }
+    fn expand_field(&self, out: &mut Output<'_>, from: Reach, path: &Path) -> Reach
+        ensures { ExpandsField self.now.sheet.now self.now.separator.now self.now.max_level path.now out.old out.new from result }
     {
         let data_type = walk::skip_head(self.sheet, from.place);
         if !self.expands(walk::byte(self.sheet, data_type), path.places().len()) {
-            return self.put_column(w, from, path);
+            return self.put_column(out, from, path);
         }
         let Some(longer) = path.below(from.place) else {
             return from;
@@ -190,48 +189,48 @@ impl Expansion<'_> {
             place: fields.at,
             ..from
         };
-        self.expand_fields(w, first, fields.count, &longer)
+        self.expand_fields(out, first, fields.count, &longer)
     }
 
     // So many fields, one behind the other. It stops once they are known to pass the longest answer.
     #[cycle(expanding)]
-    fn expand_fields(&self, w: &mut [u8], from: Reach, count: usize, path: &Path) -> Reach
-        ensures { ExpandsFields self.now.sheet.now self.now.separator.now self.now.max_level path.now count w.old from w.new result }
+    fn expand_fields(&self, out: &mut Output<'_>, from: Reach, count: usize, path: &Path) -> Reach
+        ensures { ExpandsFields self.now.sheet.now self.now.separator.now self.now.max_level path.now count out.old out.new from result }
     {
         let mut reach = from;
         for _ in 0..count {
-            reach = self.expand_field(w, reach, path);
-            if buffer::MAX_ANSWER_BYTES < reach.written {
+            reach = self.expand_field(out, reach, path);
+            if buffer::MAX_ANSWER_BYTES < out.written {
                 return reach;
             }
         }
         reach
     }
 
-    // All columns, from a position of the answer on.
-    fn put_columns(&self, w: &mut [u8], pos: usize) -> Reach
-        ensures { PutsColumns self.now.sheet.now self.now.separator.now self.now.max_level w.old pos w.new result }
+    // All columns, and how many they are.
+    fn put_columns(&self, out: &mut Output<'_>) -> usize
+        ensures { PutsColumns self.now.sheet.now self.now.separator.now self.now.max_level out.old out.new result }
     {
         let columns = walk::find_columns(self.sheet, 0);
         let first = Reach {
             place: columns.at,
-            written: pos,
             count: 0,
         };
-        self.expand_fields(w, first, columns.count, &Path::new())
+        self.expand_fields(out, first, columns.count, &Path::new())
+            .count
     }
 
     // The normalised sheet, where it has so many columns: "schema metadata goes".
-    fn put_normalized(&self, w: &mut [u8], count: usize) -> usize
-        ensures { PutsNormalized self.now.sheet.now self.now.separator.now self.now.max_level count w.old w.new result }
+    fn put_normalized(&self, out: &mut Output<'_>, count: usize)
+        ensures { PutsNormalized self.now.sheet.now self.now.separator.now self.now.max_level count out.old out.new }
     {
         if count == 0 {
-            return buffer::put_one(w, 0, 0);
+            out.put_one(0);
+            return;
         }
-        let counted = buffer::put_one(w, 0, 2);
-        let first = buffer::put_two(w, counted, count);
-        let reach = self.put_columns(w, first);
-        reach.written
+        out.put_one(2);
+        out.put_two(count);
+        self.put_columns(out);
     }
 
     // The parameters and the answer of a call whose sheet was read: 18, 30, 31, or acceptance.
@@ -241,12 +240,15 @@ impl Expansion<'_> {
         if text::check(self.separator).is_err() {
             return buffer::refuse(work, Refusal::from(Number::SeparatorNotUtf8));
         }
-        let columns = self.put_columns(&mut [], 3);
-        let length = sheet_length(columns.written);
+        // The map and the count of the columns are three bytes whatever they are.
+        let mut measured = Output::new(&mut []);
+        measured.put(&[0; 3]);
+        let count = self.put_columns(&mut measured);
+        let length = sheet_length(measured.written);
         match buffer::length_fits(length, answer.len()) {
             Err(refusal) => buffer::refuse(work, refusal),
             Ok(()) => {
-                self.put_normalized(answer, columns.count);
+                self.put_normalized(&mut Output::new(answer), count);
                 buffer::clear(work);
                 Ok(length)
             }

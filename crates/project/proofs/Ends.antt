@@ -17,7 +17,7 @@ use Rattle.model.proofs.WellFormed.{columns_laid_out}
 use Rattle.std.specs.Prelude.{Result, Ok, Err}
 use Rattle.buffer.specs.declared.refusal.Refusal.{Refusal}
 use Rattle.buffer.specs.Refusals.{number_of, numbered}
-use Rattle.buffer.specs.Puts.{length_number, unless_refused}
+use Rattle.buffer.specs.Puts.{Fills, length_number, unless_refused}
 use Rattle.buffer.specs.Leaves.{leaves}
 use Rattle.buffer.proofs.Puts.{put_refused, put_accepted}
 use Rattle.buffer.proofs.Ends.{leaves_refusal}
@@ -27,7 +27,6 @@ use Rattle.walk.proofs.Schemas.{sheet_columns}
 use Rattle.project.specs.Answers.{checked_of}
 use Rattle.project.specs.Table.{Table}
 use Rattle.project.proofs.Places.{Good, table_kept}
-use Rattle.project.proofs.Putting.{PutsSheet}
 
 -- The table and the verdict of a sheet that was read
 
@@ -57,13 +56,18 @@ Ends s list work answer r after cleared =
     (x y : Schema) (strict : Bool) (n : ℕ) → s ≡ sheet_bytes x → Table s work x.columns → project strict x list ≡ got y n
     → leaves r after cleared ≡ acceptance (sheet_bytes y) (zeros (length work)) answer
 
-module _ {s work : Bytes} (list : Bytes) {w w' : Bytes} {n : ℕ} (f : PutsSheet s work list w w' n) (answer : Bytes) {fits : Result Unit Refusal}
+-- what `put_projected` ensures
+abbrev FillsSheet : (s table list : Bytes) (w w' : Bytes) (n : ℕ) → Type 0
+FillsSheet s table list w w' n =
+    (x y : Schema) (strict : Bool) (m : ℕ) → s ≡ sheet_bytes x → Table s table x.columns → project strict x list ≡ got y m → Fills (sheet_bytes y) w w' n
+
+module _ {s work : Bytes} (list : Bytes) {w w' : Bytes} {n : ℕ} (f : FillsSheet s work list w w' n) (answer : Bytes) {fits : Result Unit Refusal}
     (m : numbered fits ≡ unless_refused (length_number n (length answer))) where
   pub end_refused : {r : Result ℕ Refusal} {z : Refusal} {cleared : Bytes} → fits ≡ Err z → r ≡ Err z → cleared ≡ zeros (length work) → Ends s list work answer r answer cleared
   end_refused {r} {cleared = cleared} h o z x y strict k i t p =
       put_refused (sheet_bytes y) (f x y strict k i t p) cleared answer m h o ∙ ap (λ w. acceptance (sheet_bytes y) w answer) z
 
-  pub end_accepted : {r : Result ℕ Refusal} {after cleared : Bytes} {q : ℕ} → fits ≡ Ok tt → PutsSheet s work list answer after q → r ≡ Ok n → cleared ≡ zeros (length work)
+  pub end_accepted : {r : Result ℕ Refusal} {after cleared : Bytes} {q : ℕ} → fits ≡ Ok tt → FillsSheet s work list answer after q → r ≡ Ok n → cleared ≡ zeros (length work)
       → Ends s list work answer r after cleared
   end_accepted {r} {after} {cleared} h g o z x y strict k i t p =
       put_accepted (sheet_bytes y) (f x y strict k i t p) cleared answer m h (g x y strict k i t p) o ∙ ap (λ w. acceptance (sheet_bytes y) w answer) z

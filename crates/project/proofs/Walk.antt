@@ -4,7 +4,7 @@ use native.Mathlib.Omega.{arith}
 use mathlib.Core.Path.{◌≡◌, refl, sym, ap, ◌∙◌}
 use mathlib.Core.List.{List, [], ◌∷◌, ◌++◌}
 use mathlib.Core.Bool.{Bool, true, false, not, ◌||◌, false≢true}
-use lib.ListN.{length, drop, get_or, set, length-set, length-replicate}
+use lib.ListN.{length, get_or, set, length-set, length-replicate}
 use lib.Dec.{eqb, ltb}
 use borrow.Author.Tests.{ltb-true, lt-ltb, le-ltb}
 use Rattle.model.specs.Numbers.{max_levels, index_out_of_bounds, index_repeated, odd_list}
@@ -13,7 +13,7 @@ use Rattle.model.specs.Tree.{Field, Schema}
 use Rattle.model.specs.Read.{Step, got, bad, next, judged, unless, ◌then◌}
 use Rattle.model.specs.Schema.{select, index_fits, selected, project}
 use Rattle.model.specs.Call.{zeros}
-use Rattle.model.proofs.Entries.{entries, indices_even, indices_odd, entries_next, entries_end}
+use Rattle.model.proofs.Entries.{entries, indices_even, indices_odd, entries_end}
 use Rattle.model.proofs.Flags.{Flags, flags_none, flags_more}
 use Rattle.project.specs.Answers.{checked_of, verdict_of}
 use Rattle.project.specs.Seen.{index_fits_by, marked}
@@ -121,12 +121,20 @@ module _ (strict : Bool) (x : Schema) (list : Bytes) where
   unfolding project next rest with_columns
   project_odd h = ap (λ r. checked_of (next r rest)) (sym (indices_odd list (length list / 2) (omega (arith, h))))
 
--- where e entries are passed: what is left is answered as the whole
-pub record Walk (strict : Bool) (list : Bytes) (count : ℕ) (seen : Bytes) (e : ℕ) : Type 0 where
+-- the first entry of those left, which the loop takes apart from them
+pub entries_first : (entry behind : Bytes) → length entry ≡ 2 → {i : ℕ} → i ≡ get_or entry 0 0 + 256 * get_or entry 1 0 → entries (entry ++ behind) ≡ i ∷ entries behind
+unfolding entries
+entries_first [] behind h is = absurd (omega (arith, h))
+entries_first (a ∷ []) behind h is = absurd (omega (arith, h))
+entries_first (a ∷ b ∷ []) behind h is = ap (λ i. i ∷ entries behind) (sym is)
+entries_first (a ∷ b ∷ c ∷ cs) behind h is = absurd (omega (arith, h))
+
+-- where e entries are passed: those left are answered as the whole
+pub record Walk (strict : Bool) (list left : Bytes) (count : ℕ) (seen : Bytes) (e : ℕ) : Type 0 where
   pub size : length seen ≡ count
   pub passed : List ℕ
   pub marks : strict ≡ true → Flags seen passed
-  pub same : (x : Schema) → length x.columns ≡ count → checked_of (selected strict x.columns (entries (drop (2 * e) list)) passed e) ≡ checked_of (project strict x list)
+  pub same : (x : Schema) → length x.columns ≡ count → checked_of (selected strict x.columns (entries left) passed e) ≡ checked_of (project strict x list)
 
 -- what `check_list` ensures
 abbrev Checks : Bool → Bytes → ℕ → Verdict → Type 0
@@ -138,42 +146,42 @@ unfolding zeros
 cleared n z = sym (ap length z ∙ length-replicate {A = ℕ} n 0)
 
 module _ (strict : Bool) (list : Bytes) where
-  pub walk_begin : {seen : Bytes} (n : ℕ) → (length list % 2 ≡ 1 → ⊥) → seen ≡ zeros n → Walk strict list (length seen) seen 0
+  pub walk_begin : {left seen : Bytes} {e : ℕ} (n : ℕ) → (length list % 2 ≡ 1 → ⊥) → left ≡ list → e ≡ 0 → seen ≡ zeros n → Walk strict list left (length seen) seen e
   unfolding zeros
-  walk_begin {seen} n h z = record {
+  walk_begin {seen = seen} n h l none z = record {
     size = refl;
     passed = [];
     marks = λ s. rw z (flags_none n);
-    same = λ x e. project_entries strict x list (length list / 2) (omega (arith, h));
+    same = λ x n. (λ j. checked_of (selected strict x.columns (entries (l j)) [] (none j))) ∙ project_entries strict x list (length list / 2) (omega (arith, h));
   }
 
-  module _ {count : ℕ} {seen : Bytes} {e : ℕ} (w : Walk strict list count seen e) where
-    pub walk_end : length list / 2 ≤ e → Checks strict list count (Ok tt)
+  module _ {left : Bytes} {count : ℕ} {seen : Bytes} {e : ℕ} (w : Walk strict list left count seen e) where
+    pub walk_end : length left < 2 → Checks strict list count (Ok tt)
     unfolding selected
-    walk_end h x n = ap (λ is. checked_of (selected strict x.columns is w.passed e)) (sym (entries_end list e h)) ∙ w.same x n
+    walk_end h x n = ap (λ is. checked_of (selected strict x.columns is w.passed e)) (sym (entries_end left 0 (omega (arith, h)))) ∙ w.same x n
 
-    -- the entry at e, and its answer
-    module _ (h : e < length list / 2) {i : ℕ} (is : i ≡ get_or list (2 * e) 0 + 256 * get_or list (2 * e + 1) 0) where
-      verdict : {v : Verdict} → v ≡ verdict_of (index_fits_by strict seen i) e → (x : Schema) → length x.columns ≡ count
+    -- the first entry of those left, and its answer
+    module _ (entry behind : Bytes) (h : left ≡ entry ++ behind) (two : length entry ≡ 2) {i place : ℕ} (is : i ≡ get_or entry 0 0 + 256 * get_or entry 1 0) (at_e : place ≡ e) where
+      verdict : {v : Verdict} → v ≡ verdict_of (index_fits_by strict seen i) place → (x : Schema) → length x.columns ≡ count
           → v ≡ verdict_of (index_fits strict (length x.columns) w.passed i) e
-      verdict a x n = a ∙ ap (λ v. verdict_of v e) (fits_same strict w.marks (length x.columns) (w.size ∙ sym n) i)
+      verdict a x n = a ∙ λ j. verdict_of (fits_same strict w.marks (length x.columns) (w.size ∙ sym n) i j) (at_e j)
 
-      left_same : (x : Schema) → length x.columns ≡ count → checked_of (selected strict x.columns (i ∷ entries (drop (2 * (e + 1)) list)) w.passed e) ≡ checked_of (project strict x list)
-      left_same x n = ap (λ is. checked_of (selected strict x.columns is w.passed e)) (sym (entries_next list e h is)) ∙ w.same x n
+      left_same : (x : Schema) → length x.columns ≡ count → checked_of (selected strict x.columns (i ∷ entries behind) w.passed e) ≡ checked_of (project strict x list)
+      left_same x n = ap (λ is. checked_of (selected strict x.columns is w.passed e)) (sym (ap entries h ∙ entries_first entry behind two is)) ∙ w.same x n
 
-      module _ {r : Result Unit Refusal} (a : numbered r ≡ verdict_of (index_fits_by strict seen i) e) where
+      module _ {r : Result Unit Refusal} (a : numbered r ≡ verdict_of (index_fits_by strict seen i) place) where
         pub walk_stop : {y : Refusal} → r ≡ Err y → Checks strict list count (numbered r)
         unfolding selected
         walk_stop g x n = let k = ap numbered g in k ∙ sym (next_refused e _ _ _ _ (sym (verdict a x n) ∙ k)) ∙ left_same x n
 
-        pub walk_next : {after : Bytes} → r ≡ Ok tt → after ≡ marked strict r seen i → Walk strict list count after (e + 1)
+        pub walk_next : {after : Bytes} {next : ℕ} → r ≡ Ok tt → after ≡ marked strict r seen i → next ≡ e + 1 → Walk strict list behind count after next
         unfolding selected
-        walk_next {after} g m = record {
+        walk_next {after} {next} g m step = record {
           size = ap length m ∙ length_marked strict r seen i ∙ w.size;
           passed = i ∷ w.passed;
-          marks = rw m (marks_more strict w.marks i g (entry_inside strict seen i e (sym a ∙ ap numbered g)));
+          marks = rw m (marks_more strict w.marks i g (entry_inside strict seen i place (sym a ∙ ap numbered g)));
           same = λ x n.
-              let s : e + 1 ≡ suc e = omega arith in
-              ap (λ k. checked_of (selected strict x.columns (entries (drop (2 * (e + 1)) list)) (i ∷ w.passed) k)) s
+              let s : next ≡ suc e = omega (arith, step) in
+              ap (λ k. checked_of (selected strict x.columns (entries behind) (i ∷ w.passed) k)) s
               ∙ sym (next_valid e _ _ _ _ (sym (verdict a x n) ∙ ap numbered g) ∙ made_checked (λ rest. select x.columns i ++ rest) _) ∙ left_same x n;
         }

@@ -12,7 +12,7 @@ ghost use Rattle.model.specs.WellFormed.{LaidOut, Fits};
 ghost use Rattle.model.specs.Read.{got};
 ghost use Rattle.model.specs.Schema.{project};
 ghost use Rattle.model.specs.Call.{sheet_answer, acceptance, settled, zeros, project_call};
-ghost use Rattle.buffer.specs.Puts.{Puts};
+ghost use Rattle.buffer.specs.Puts.{Puts, Fills};
 ghost use Rattle.buffer.specs.Refusals.{numbered};
 ghost use Rattle.buffer.specs.Leaves.{leaves};
 ghost use Rattle.walk.specs.Stands.{Stands};
@@ -20,7 +20,7 @@ ghost use Rattle.project.specs.Answers.{checked_of, verdict_of};
 ghost use Rattle.project.specs.Seen.{index_fits_by, marked};
 ghost use Rattle.project.specs.Table.{Table};
 
-use buffer::{Number, Refusal};
+use buffer::{Number, Output, Refusal};
 use sheet::Cursor;
 use walk::Elements;
 
@@ -72,8 +72,8 @@ fn check_list(list: &[u8], strict: bool, seen: &mut [u8]) -> Result<(), Refusal>
         return Err(Refusal::from(Number::OddList));
     }
     buffer::clear(seen);
-    for e in 0..list.len() / 2 {
-        let checked = check_entry(seen, walk::two(list, 2 * e), strict, e);
+    for (e, entry) in list.chunks_exact(2).enumerate() {
+        let checked = check_entry(seen, walk::two(entry, 0), strict, e);
         let Ok(()) = checked else {
             return checked;
         };
@@ -106,44 +106,42 @@ fn check_columns(s: &[u8], list: &[u8], strict: bool, work: &mut [u8]) -> Result
 }
 
 // The map, of which the bit for the metadata is as it was and that for the columns is given, and the metadata as it stands in the sheet.
-fn put_front(s: &[u8], columns: bool, dst: &mut [u8]) -> usize
-    ensures { (x : Schema) → s.now ≡ sheet_bytes x → Puts ((flag 1 (stands x.metadata) + flag 2 columns) ∷ part (with_count pair_bytes) x.metadata) dst.old 0 dst.new result }
+fn put_front(s: &[u8], columns: bool, out: &mut Output<'_>)
+    ensures { (x : Schema) → s.now ≡ sheet_bytes x → Puts ((flag 1 (stands x.metadata) + flag 2 columns) ∷ part (with_count pair_bytes) x.metadata) out.old out.new }
 {
     let metadata = walk::bit(walk::byte(s, 0), 0);
-    let end = walk::skip_if(s, 1, metadata, walk::skip_metadata);
-    let map = u8::from(metadata) + 2 * u8::from(columns);
-    let place = buffer::put_one(dst, 0, map);
-    walk::put_part(dst, place, s, 1, end)
+    out.put_one(u8::from(metadata) + 2 * u8::from(columns));
+    walk::put_part(out, s, 1, walk::skip_sheet_head(s, 0));
 }
 
 // The column of each entry of a list that was accepted. Beyond the longest answer no more is looked at.
-fn put_columns(s: &[u8], table: &[u8], list: &[u8], dst: &mut [u8], pos: usize) -> usize
-    ensures { (x y : Schema) (strict : Bool) (n : ℕ) → Table s.now table.now x.columns → project strict x list.now ≡ got y n → Puts (each column_bytes y.columns) dst.old pos dst.new result }
+fn put_columns(s: &[u8], table: &[u8], list: &[u8], out: &mut Output<'_>)
+    ensures { (x y : Schema) (strict : Bool) (n : ℕ) → Table s.now table.now x.columns → project strict x list.now ≡ got y n → Puts (each column_bytes y.columns) out.old out.new }
 {
-    let mut written = pos;
-    for e in 0..list.len() / 2 {
-        if buffer::MAX_ANSWER_BYTES < written {
-            return written;
+    for entry in list.chunks_exact(2) {
+        if buffer::MAX_ANSWER_BYTES < out.written {
+            return;
         }
-        let i = walk::two(list, 2 * e);
+        let i = walk::two(entry, 0);
         let from = walk::two(table, 2 * i);
         let to = walk::two(table, 2 * (i + 1));
-        written = walk::put_part(dst, written, s, from, to);
+        walk::put_part(out, s, from, to);
     }
-    written
 }
 
-// The sheet of the projection by a list that was accepted.
+// The sheet of the projection by a list that was accepted, from the buffer's start on, and its length.
 fn put_projected(s: &[u8], table: &[u8], list: &[u8], dst: &mut [u8]) -> usize
-    ensures { (x y : Schema) (strict : Bool) (n : ℕ) → s.now ≡ sheet_bytes x → Table s.now table.now x.columns → project strict x list.now ≡ got y n → Puts (sheet_bytes y) dst.old 0 dst.new result }
+    ensures { (x y : Schema) (strict : Bool) (n : ℕ) → s.now ≡ sheet_bytes x → Table s.now table.now x.columns → project strict x list.now ≡ got y n → Fills (sheet_bytes y) dst.old dst.new result }
 {
+    let mut out = Output::new(dst);
     let none = list.is_empty();
-    let count = put_front(s, !none, dst);
+    put_front(s, !none, &mut out);
     if none {
-        return count;
+        return out.written;
     }
-    let first = buffer::put_two(dst, count, list.len() / 2);
-    put_columns(s, table, list, dst, first)
+    out.put_two(list.len() / 2);
+    put_columns(s, table, list, &mut out);
+    out.written
 }
 
 // The end of a call whose list was accepted: the answer's length first, then 30, 31, or the answer.

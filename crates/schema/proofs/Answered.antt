@@ -1,11 +1,11 @@
 -- `flattened_fields` as a call: from the columns of an accepted sheet to what stands in the buffers at the end.
-use Prim.Native.Nat.{ℕ, ◌+◌, ◌*◌, ◌-◌, ◌/◌, ◌≤◌, ◌<◌}
+use Prim.Native.Nat.{ℕ, ◌+◌, ◌*◌, ◌-◌, ◌/◌, ◌%◌, ◌≤◌, ◌<◌}
 use native.Mathlib.Omega.{arith}
 use mathlib.Core.Path.{◌≡◌, refl, sym, ap, subst, ◌∙◌}
-use mathlib.Core.List.{List, [], ◌∷◌}
-use lib.ListN.{length, take, length-append}
+use mathlib.Core.List.{List, [], ◌∷◌, ◌++◌}
+use lib.ListN.{length, take, drop, length-append}
 use lib.Dec.{ltb}
-use Rattle.model.specs.Numbers.{max_levels, work_bytes_per_sheet_byte}
+use Rattle.model.specs.Numbers.{max_levels, max_sheet_bytes, work_bytes_per_sheet_byte}
 use Rattle.model.specs.Bytes.{Bytes, Metadata, u16}
 use Rattle.model.specs.Tree.{Field, Schema}
 use Rattle.model.specs.Sheet.{each, part, with_count, pair_bytes, column_bytes, sheet_bytes}
@@ -20,13 +20,15 @@ use Rattle.walk.proofs.Standing.{whole_stands}
 use Rattle.std.specs.Prelude.{Result, Ok, Err}
 use Rattle.buffer.specs.declared.refusal.Refusal.{Refusal}
 use Rattle.buffer.specs.Refusals.{number_of, numbered}
-use Rattle.buffer.specs.Puts.{unless_short}
+use Rattle.buffer.specs.declared.Output.{Output}
+use Rattle.buffer.specs.Puts.{Puts, Fills, unless_short}
 use Rattle.buffer.specs.Buffer.{pasted}
 use Rattle.buffer.specs.Leaves.{leaves}
-use Rattle.buffer.proofs.Pasted.{length_pasted, pasted_front, take_pasted}
+use Rattle.buffer.proofs.Pasted.{length_pasted, pasted_zero, take_pasted}
+use Rattle.buffer.proofs.Puts.{puts_join, two_bytes_lem}
 use Rattle.buffer.proofs.Room.{room_enough}
 use Rattle.buffer.proofs.Ends.{call_answered}
-use Rattle.schema.specs.Flattens.{Puts, Flattens, own, FlattensRow, Listed}
+use Rattle.schema.specs.Flattens.{Flattens, own, FlattensRow, Listed}
 use Rattle.sheet.proofs.Reading.{Whole, sheet_refused}
 use Rattle.std.proofs.Common.{add-zero}
 
@@ -43,29 +45,34 @@ columns_places {s} x {n} {first} a = go x.metadata x.columns a.ends
         omega (arith, e, length-append (part (with_count pair_bytes) m) (part (with_count column_bytes) (c ∷ cs))) in
         ap (λ p. each_at column_bytes (own max_levels) p (c ∷ cs)) place
 
--- the offsets behind the first two bytes, and then their count in these
-counted_written : (ns : List ℕ) {s b : Bytes} {place : ℕ} {w w₁ w₂ : Bytes} {r t k q : ℕ} → length s < 65536 → Stands s place b → length ns < 65536
-    → length (with_count u16 ns) ≤ length w → Flattens s place b ns w 2 w₁ r t → k ≡ (t - 2) / 2 → Puts k w₁ 0 w₂ q
+-- the offsets behind two bytes, and then their count over these
+counted_written : (ns : List ℕ) {w w₁ w₂ : Bytes} {t k q : ℕ} → length ns < 65536 → length (with_count u16 ns) ≤ max_sheet_bytes → length (with_count u16 ns) ≤ length w
+    → Fills (0 ∷ 0 ∷ each u16 ns) w w₁ t → k ≡ (t - 2) / 2 → Fills (k % 256 ∷ k / 256 % 256 ∷ []) w₁ w₂ q
     → (t ≡ length (with_count u16 ns)) × (w₂ ≡ pasted w 0 (with_count u16 ns))
 unfolding with_count u16
-counted_written ns {w = w} {w₁} {w₂} {r} {t} {k} h st small room f e g =
-    let y = f.does h st (omega (arith, length_numbers ns)) in
-    let n : k ≡ length ns = omega (arith, e, y.1) in
-    let len : length w₁ ≡ length w = ap length y.2 ∙ length_pasted w 2 (each u16 ns) (omega (arith, length_numbers ns)) in
-    let z = g.written (omega (arith, n, small)) (omega (arith, len)) in (
-      omega (arith, y.1, length_numbers ns),
-      z.1 ∙ ap (λ k. pasted w₁ 0 (u16 k)) n ∙ ap (λ w. pasted w 0 (u16 (length ns))) y.2
-          ∙ pasted_front w (u16 (length ns)) (each u16 ns) 2 refl (omega arith),
+counted_written ns {w} {w₁} {k = k} few small room f e g =
+    let y = f.inside (omega (arith, small)) in
+    let n : k ≡ length ns = omega (arith, e, y, length_numbers ns) in
+    let count : ◌≡◌ {A = Bytes} (k % 256 ∷ k / 256 % 256 ∷ []) (u16 (length ns)) = ap (λ k. k % 256 ∷ k / 256 % 256 ∷ []) n ∙ two_bytes_lem (length ns) few in (
+      y,
+      g.written (omega arith) (omega (arith, f.size, room))
+          ∙ ap (pasted w₁ 0) count
+          ∙ pasted_zero w₁ (u16 (length ns))
+          ∙ ap (λ w. u16 (length ns) ++ drop 2 w) (f.written (omega (arith, small)) (omega (arith, room)) ∙ pasted_zero w (0 ∷ 0 ∷ each u16 ns))
+          ∙ sym (pasted_zero w (u16 (length ns) ++ each u16 ns)),
     )
 
-pub fields_listed : {s w w₁ w₂ : Bytes} {n first r t k q : ℕ} → ((x : Schema) → Stands s 0 (sheet_bytes x) → ColumnsAt s 0 x n first)
-    → FlattensRow s first n 0 32 w 2 w₁ r t → k ≡ (t - 2) / 2 → Puts k w₁ 0 w₂ q → Listed s w w₂ t
-fields_listed {s} {w} {w₁} {w₂} {n} {first} {r} {t} f g e h = record {
+pub fields_listed : {s w w₁ w₂ : Bytes} {o o₁ o₂ : Output} {n first r k q : ℕ} → ((x : Schema) → Stands s 0 (sheet_bytes x) → ColumnsAt s 0 x n first)
+    → Puts (0 ∷ 0 ∷ []) o o₁ → FlattensRow s first n 0 32 o₁ o₂ r → ((b : Bytes) → Puts b o o₂ → Fills b w w₁ o₂.written)
+    → k ≡ (o₂.written - 2) / 2 → Fills (k % 256 ∷ k / 256 % 256 ∷ []) w₁ w₂ q → Listed s w w₂ o₂.written
+fields_listed {s} {o₁ = o₁} {o₂} {first = first} {r} f two g all e h = record {
   listed = λ x good i j room.
       let a = f x (whole_stands s (sheet_bytes x) i) in
-      let p = subst (λ ns. Flattens s first (each column_bytes x.columns) ns w 2 w₁ r t) (columns_places x a)
+      let p = subst (λ ns. Flattens s first (each column_bytes x.columns) ns o₁ o₂ r) (columns_places x a)
       (g max_levels (λ h. []) (own max_levels) x.columns (λ h. refl) (λ n k. ap (λ m. own max_levels m k) (sym (add-zero n))) (omega arith) (sym a.count) (columns_laid_out x good)) in
-      counted_written (flattened_fields x) j a.stands (omega (arith, flattened_half x, ap length i)) room p e h;
+      let ns = flattened_fields x in
+      counted_written ns (omega (arith, flattened_half x, ap length i, j)) (omega (arith, flattened_no_longer x, ap length i, j)) room
+      (all _ (puts_join (0 ∷ 0 ∷ []) (each u16 ns) two (p.does j a.stands).1)) e h;
 }
 
 -- The call: the refusal, or the offsets

@@ -13,9 +13,9 @@ ghost use Rattle.model.specs.Call.{and_then, bytes, settled, zeros, index_of_cal
 ghost use Rattle.buffer.specs.Leaves.{leaves};
 ghost use Rattle.walk.specs.Stands.{Stands};
 ghost use Rattle.schema.specs.Answers.{Narrow};
-ghost use Rattle.schema.specs.Flattens.{Puts, FlattensType, FlattensField, FlattensRow, FlattensChildren, Listed};
+ghost use Rattle.schema.specs.Flattens.{FlattensType, FlattensField, FlattensRow, FlattensChildren, Listed};
 
-use buffer::{Number, Refusal};
+use buffer::{Number, Output, Refusal};
 use layout::{ChildrenKind, RUN_END_ENCODED};
 use sheet::Cursor;
 use walk::Elements;
@@ -88,77 +88,47 @@ pub fn index_of(
     }
 }
 
-// Writes a number of two bytes, and gives the position behind it. Without room, or for a number above 65,535, it writes nothing: neither
-// comes about once a sheet is accepted, and so no caller has to show it.
-fn put_number(w: &mut [u8], pos: usize, v: usize) -> usize
-    ensures { Puts v w.old pos w.new result }
-{
-    let end = pos.saturating_add(2);
-    if 65535 < v || w.len() < end {
-        return pos;
-    }
-    buffer::put_u16(w, pos, v);
-    end
-}
-
-// How far a walk came: the place in the sheet, and the position in the work buffer.
-#[derive(Clone, Copy)]
-struct Reach {
-    at: usize,
-    written: usize,
-}
-
-// `Field::fields`: the place of the field itself, then those of the fields of its type: "parents first".
+// `Field::fields`: the place of the field itself, then those of the fields of its type: "parents first". Each of these functions gives the
+// place behind what it is for.
 #[cycle(flattening)]
-fn flatten_field(s: &[u8], at: usize, levels: usize, w: &mut [u8], pos: usize) -> Reach
-    ensures { FlattensField s.now at levels w.old pos w.new result.at result.written }
+fn flatten_field(s: &[u8], at: usize, levels: usize, out: &mut Output<'_>) -> usize
+    ensures { FlattensField s.now at levels out.old out.new result }
 {
-    let own = put_number(w, pos, at);
-    flatten_type(s, walk::skip_head(s, at), levels, w, own)
+    out.put_two(at);
+    flatten_type(s, walk::skip_head(s, at), levels, out)
 }
 
 // The fields of a type of at most so many levels, itself among them.
 #[cycle(flattening)]
-fn flatten_type(s: &[u8], at: usize, levels: usize, w: &mut [u8], pos: usize) -> Reach
-    ensures { FlattensType s.now at levels w.old pos w.new result.at result.written }
+fn flatten_type(s: &[u8], at: usize, levels: usize, out: &mut Output<'_>) -> usize
+    ensures { FlattensType s.now at levels out.old out.new result }
 {
     if levels == 0 {
-        return Reach { at, written: pos };
+        return at;
     }
     let code = walk::byte(s, at);
     let params = walk::ahead(s, at, 1);
     let children = walk::skip_params(s, params, code);
-    flatten_children(s, children, code, levels - 1, w, pos)
+    flatten_children(s, children, code, levels - 1, out)
 }
 
 // `Field::_fields`, arm by arm: "run ends and dictionary keys skipped".
 #[cycle(flattening)]
-fn flatten_children(
-    s: &[u8],
-    at: usize,
-    code: usize,
-    levels: usize,
-    w: &mut [u8],
-    pos: usize,
-) -> Reach
-    ensures { FlattensChildren s.now at code levels w.old pos w.new result.at result.written }
+fn flatten_children(s: &[u8], at: usize, code: usize, levels: usize, out: &mut Output<'_>) -> usize
+    ensures { FlattensChildren s.now at code levels out.old out.new result }
 {
     if code == RUN_END_ENCODED {
         let values = walk::skip_field(s, at, levels);
-        return flatten_field(s, values, levels, w, pos);
+        return flatten_field(s, values, levels, out);
     }
     match layout::children(code) {
-        ChildrenKind::Fields(count) => {
-            flatten_fields(s, Elements { count, at }, 0, levels, w, pos)
-        }
+        ChildrenKind::Fields(count) => flatten_fields(s, Elements { count, at }, 0, levels, out),
         ChildrenKind::KeyAndValue => {
             let value = walk::skip_type(s, at, levels);
-            flatten_type(s, value, levels, w, pos)
+            flatten_type(s, value, levels, out)
         }
-        ChildrenKind::Counted => flatten_fields(s, Elements::counted(s, at), 0, levels, w, pos),
-        ChildrenKind::CountedWithIds => {
-            flatten_fields(s, Elements::counted(s, at), 1, levels, w, pos)
-        }
+        ChildrenKind::Counted => flatten_fields(s, Elements::counted(s, at), 0, levels, out),
+        ChildrenKind::CountedWithIds => flatten_fields(s, Elements::counted(s, at), 1, levels, out),
     }
 }
 
@@ -169,29 +139,28 @@ fn flatten_fields(
     fields: Elements,
     before: usize,
     levels: usize,
-    w: &mut [u8],
-    pos: usize,
-) -> Reach
-    ensures { FlattensRow s.now fields.at fields.count before levels w.old pos w.new result.at result.written }
+    out: &mut Output<'_>,
+) -> usize
+    ensures { FlattensRow s.now fields.at fields.count before levels out.old out.new result }
 {
     let mut place = fields.at;
-    let mut written = pos;
     for _ in 0..fields.count {
         let field = walk::ahead(s, place, before);
-        let reach = flatten_field(s, field, levels, w, written);
-        place = reach.at;
-        written = reach.written;
+        place = flatten_field(s, field, levels, out);
     }
-    Reach { at: place, written }
+    place
 }
 
-// "a u16 count, then a u16 for each field", from the start of the work buffer on. The count is written last, when it is known.
+// "a u16 count, then a u16 for each field", from the start of the work buffer on. The count is known last, and put over the first two bytes.
 fn list_fields(s: &[u8], w: &mut [u8]) -> usize
     ensures { Listed s.now w.old w.new result }
 {
-    let reach = flatten_fields(s, walk::find_columns(s, 0), 0, Cursor::LEVELS, w, 2);
-    let end = reach.written;
-    put_number(w, 0, end.saturating_sub(2) / 2);
+    let mut out = Output::new(w);
+    out.put_two(0);
+    flatten_fields(s, walk::find_columns(s, 0), 0, Cursor::LEVELS, &mut out);
+    let end = out.written;
+    let mut count = Output::new(w);
+    count.put_two(end.saturating_sub(2) / 2);
     end
 }
 

@@ -1,6 +1,8 @@
 -- `put_columns`: the columns of the entries passed are put.
+use Rattle.std.proofs.Common.{◌≡◌}
+use Rattle.std.specs.Slice.Iter.{chunks_exact_size, chunks_exact_rest}
 use Rattle.project.proofs.Putting.{Putting}
 use Rattle.project.proofs.put_columns.Given as goal
 
-abbrev pub invariant-loop-e : goal.invariant-loop-e
-invariant-loop-e l = Putting l.s l.table l.list l.initial.dst l.pos l.dst l.written l.e
+abbrev pub invariant-loop-entry : goal.invariant-loop-entry
+invariant-loop-entry l = (chunks_exact_size l.entry-iterator ≡ 2) × Putting l.s l.table l.list (chunks_exact_rest l.entry-iterator) l.initial.out l.out

@@ -5,5 +5,4 @@ use Rattle.project.proofs.put_front.Goals as goal
 
 pub returns : goal.returns
 returns c =
-    let metadata = c.skip_if-end.ensures in
-    front_put _ c.byte.ensures.0 c.bit-metadata.ensures metadata.set metadata.unset (omega (arith, bits_added c.bit-metadata.result c.args.columns)) c.put_one-place.ensures c.put_part.ensures
+    front_put _ c.byte.ensures.0 c.bit-metadata.ensures (omega (arith, bits_added c.bit-metadata.result c.args.columns)) c.put_one.ensures c.skip_sheet_head.ensures c.put_part.ensures

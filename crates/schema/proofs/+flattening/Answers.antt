@@ -1,8 +1,6 @@
 -- Fields, types and their children. The levels left fall from a type to its children, and each function calls on one that stands before it at equal levels.
-use mathlib.Core.Path.{refl}
 use Rattle.schema.proofs.Writing.{turns_begin, turns_again, turns_done}
 use Rattle.schema.proofs.Walked.{field_walked, type_walked, field_behind, dictionary_walked, runs_walked, struct_walked, union_walked, others_walked}
-use borrow.Author.Rules.{rules}
 use Rattle.schema.proofs.+flattening.Goals as goal
 
 pub flatten_children-returns-then-code-eq-RUN_END_ENCODED : goal.flatten_children-returns-then-code-eq-RUN_END_ENCODED
@@ -21,19 +19,17 @@ pub flatten_children-returns-in-Fields : goal.flatten_children-returns-in-Fields
 flatten_children-returns-in-Fields t c = others_walked _ _ c.if-code-eq-RUN_END_ENCODED.false c.in-Fields.ensures c.flatten_fields.ensures
 
 pub flatten_field-returns : goal.flatten_field-returns
-flatten_field-returns t c = field_walked _ c.put_number-own.ensures (λ l f. c.skip_head.ensures f.head) c.flatten_type.ensures
+flatten_field-returns t c = field_walked _ c.put_two.ensures (λ l f. c.skip_head.ensures f.head) c.flatten_type.ensures
 
 pub flatten_fields-loop-init : goal.flatten_fields-loop-init
-flatten_fields-loop-init t c = (refl, λ l front one n o h. turns_begin _ _ _ _)
+flatten_fields-loop-init t c = λ l front one n o h. turns_begin _ _ _ _
 
 pub flatten_fields-loop-preserved : goal.flatten_fields-loop-preserved
-flatten_fields-loop-preserved t c = (
-  search rules,
-  λ l front one n o h. turns_again _ _ _ _ (c.loop.invariant.1 l front one n o h) c.loop-test.true (field_behind c.ahead-field.ensures c.flatten_field-reach.ensures l front one n o h),
-)
+flatten_fields-loop-preserved t c =
+    λ l front one n o h. turns_again _ _ _ _ (c.loop.invariant l front one n o h) c.loop-test.true (field_behind c.ahead-field.ensures c.flatten_field-place.ensures l front one n o h)
 
 pub flatten_fields-returns : goal.flatten_fields-returns
-flatten_fields-returns t c = λ l front one ks n o h e w. turns_done _ _ _ _ (c.loop.invariant.1 l front one n o h) c.loop-test.false ks e w
+flatten_fields-returns t c = λ l front one ks n o h e w. turns_done _ _ _ _ (c.loop.invariant l front one n o h) c.loop-test.false ks e w
 
 pub flatten_type-returns : goal.flatten_type-returns
 flatten_type-returns t c = type_walked _ c.byte-code.ensures.0 c.ahead-params.ensures c.skip_params-children.ensures c.flatten_children.ensures

@@ -25,6 +25,5 @@ decreases-flatten_type l = 8 * l.levels + 0
 
 abbrev pub invariant-flatten_fields-loop : goal.invariant-flatten_fields-loop
 invariant-flatten_fields-loop v =
-    (length v.w ≡ length v.initial.w)
-    × ((l : ℕ) (front : Head → Bytes) (one : ℕ → Field l → List ℕ) → ((h : Head) → length (front h) ≡ v.before) → ((n : ℕ) (k : Field l) → one n k ≡ own l (n + v.before) k) → l ≤ v.levels
-    → Turns (λ k. LaidOut l k.data_type) (λ k. front k.head ++ field_bytes (type_bytes l) k) one v.s v.fn.fields.at v.fn.fields.count v.initial.w v.pos v.place v.counter v.w v.written)
+    (l : ℕ) (front : Head → Bytes) (one : ℕ → Field l → List ℕ) → ((h : Head) → length (front h) ≡ v.before) → ((n : ℕ) (k : Field l) → one n k ≡ own l (n + v.before) k) → l ≤ v.levels
+    → Turns (λ k. LaidOut l k.data_type) (λ k. front k.head ++ field_bytes (type_bytes l) k) one v.s v.fn.fields.at v.fn.fields.count v.place v.counter v.initial.out v.out

@@ -1,5 +1,4 @@
 -- Fields and the fields below them. The depth rises from a field to its children, up to the levels that there are.
-use mathlib.Core.Path.{◌≡◌}
 use mathlib.Core.List.{List}
 use Prim.Native.Nat.{ℕ, ◌+◌, ◌*◌, ◌-◌, ◌≤◌}
 use lib.ListN.{length}
@@ -19,6 +18,5 @@ decreases-expand_fields l = 2 * (max_levels - length l.path.now) + 1
 
 abbrev pub invariant-expand_fields-loop : goal.invariant-expand_fields-loop
 invariant-expand_fields-loop v =
-    (length v.w ≡ length v.initial.w)
-    × ((l : ℕ) (up : DataType l → DataType max_levels) (hs : List Head) → l + length v.path ≤ max_levels → Lifts l up → Above v.self.sheet.now v.path hs
-    → Turns (λ k. LaidOut l k.data_type) (field_bytes (type_bytes l)) (columns_of v.self.separator.now v.self.max_level (length v.path) l up hs) v.self.sheet.now v.count v.initial.w v.initial.reach (v.count - v.counter) v.w v.reach)
+    (l : ℕ) (up : DataType l → DataType max_levels) (hs : List Head) → l + length v.path ≤ max_levels → Lifts l up → Above v.self.sheet.now v.path hs
+    → Turns (λ k. LaidOut l k.data_type) (field_bytes (type_bytes l)) (columns_of v.self.separator.now v.self.max_level (length v.path) l up hs) v.self.sheet.now v.count (v.count - v.counter) v.initial.out v.out v.initial.reach v.reach

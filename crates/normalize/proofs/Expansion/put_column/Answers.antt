@@ -5,4 +5,4 @@ use Rattle.normalize.proofs.Expansion.put_column.Goals as goal
 
 pub returns : goal.returns
 returns c =
-    column_expanded _ c.skip_head-data_type.ensures c.skip_type-end.ensures c.put_head-headed.ensures c.put_part.ensures (λ h. omega (arith, h, c.saturating_add.ensures))
+    column_expanded _ c.skip_head-data_type.ensures c.skip_type-place.ensures c.put_head.ensures c.put_part.ensures (λ h. omega (arith, h, c.saturating_add.ensures))

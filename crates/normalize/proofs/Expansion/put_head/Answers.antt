@@ -11,4 +11,4 @@ returns-then-length-eq0 c hs h a st =
 pub returns : goal.returns
 returns c hs h a st =
     head_named h _ (c.name_length-length.ensures hs h a st) c.if-length-eq0.false (omega (arith, nullable_stands c.byte-nullable.ensures.0 h st))
-    c.put_one-text.ensures c.put_two-body.ensures (c.put_name.ensures hs h a st)
+    c.put_one-2.ensures c.put_two.ensures (c.put_name.ensures hs h a st)

@@ -3,4 +3,4 @@ use Rattle.buffer.proofs.Puts.{puts_join}
 use Rattle.normalize.proofs.Expansion.put_name.Goals as goal
 
 pub returns : goal.returns
-returns c hs h a st = puts_join _ _ (c.put_prefix-own.ensures hs a) (c.put_own_name.ensures h st)
+returns c hs h a st = puts_join _ _ (c.put_prefix.ensures hs a) (c.put_own_name.ensures h st)
