@@ -132,7 +132,8 @@ fn skip_dict_id(s: &[u8], at: usize) -> usize
     ahead(s, at, 8)
 }
 
-// What stands under a bit of a map: a part that `skip` goes over where the bit is set, else nothing.
+// What stands under a bit of a map: a part that `skip` goes over where the bit is set, else nothing. In line: most heads have but a name.
+#[inline(always)]
 pub fn skip_if<F: FnOnce(&[u8], usize) -> usize>(s: &[u8], at: usize, set: bool, skip: F) -> usize
     requires { F.IsAlwaysCallable skip }
     ensures set { set ≡ true → F.post skip s.entry at result }
@@ -142,6 +143,7 @@ pub fn skip_if<F: FnOnce(&[u8], usize) -> usize>(s: &[u8], at: usize, set: bool,
 }
 
 // A field's map and name.
+#[inline(always)]
 pub fn skip_name(s: &[u8], at: usize) -> usize
     ensures { SkipsName s.now at result }
 {
