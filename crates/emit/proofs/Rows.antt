@@ -20,7 +20,7 @@ use Rattle.walk.proofs.Standing.{byte_stands, stands_behind}
 use Rattle.walk.proofs.Parts.{Ahead}
 use Rattle.walk.proofs.Descents.{type_stands}
 use Rattle.table.specs.Table.{u24, three, no_entry, Rows, none, more, SpellField, SpellRow}
-use Rattle.table.proofs.Entries.{SkipsEntries}
+use Rattle.table.specs.Entries.{SkipsEntries}
 use Rattle.emit.specs.Emission.{PutsHead, PutsType, PutsEntry, PutsEntries, PutsRow, HasEntries, CountsEntries}
 use Rattle.emit.proofs.Going.{Going, going_out, going_done, going_again, going_stuck}
 use Rattle.emit.proofs.Fronts.{place_is}

@@ -13,6 +13,9 @@ use Rattle.walk.specs.Stands.{Stands, Skips}
 use Rattle.walk.proofs.Standing.{first_stands, byte_stands, skip_ahead, skip_join, skip_when}
 use Rattle.walk.proofs.Parts.{Ahead}
 use Rattle.table.specs.Table.{u24, no_place, no_entry, raw, open_struct, open_list, open_union, places_bytes, Rows, none, more, Refer, none_left, one_place, SpellMetadata, raw_pairs, pair_places, SpellFieldOver, spell_raw, spell_struct, spell_list, spell_union, SpellType, SpellField, SpellRow}
+use Rattle.std.proofs.Common.{Option}
+use Rattle.table.specs.Entries.{SkipsEntries, NoEntry, StepsOver, GivesEntry}
+use Rattle.table.specs.declared.EntryRow.{EntryRow}
 use Rattle.table.proofs.Numbers.{length_u24}
 use Rattle.table.proofs.Marked.{joined, Left, Rest, rest_begin, rest_again, rest_done, rest_none}
 
@@ -56,13 +59,10 @@ module _ {T : Type 0} {write : T → Bytes} {G : Bool → T → Type 0} {P : T �
 
 -- Types
 
--- what `skip_type`, `skip_entry` and `skip_row` ensure
+-- what `skip_type` and `skip_row` ensure
 
 abbrev pub SkipsTypes : Bytes → ℕ → ℕ → ℕ → Type 0
 SkipsTypes w place levels r = (l : ℕ) (s : Bytes) (first : DataType l) (k : ℕ) (y : Bytes) (t : DataType l) → l ≤ levels → SpellType l s first k y t → Skips w place y r
-
-abbrev pub SkipsEntries : Bytes → ℕ → ℕ → ℕ → Type 0
-SkipsEntries w place levels r = (l : ℕ) (s : Bytes) (k : ℕ) (y : Bytes) (f : Field l) → l ≤ levels → SpellField l s k y f → Skips w place y r
 
 abbrev pub SkipsRows : Bytes → ℕ → ℕ → ℕ → Type 0
 SkipsRows w place levels r = (l : ℕ) (s : Bytes) (k : ℕ) (y : Bytes) (fs : List (Field l)) → l ≤ levels → SpellRow l s k y fs → Skips w place y r
@@ -119,6 +119,16 @@ plain_entry {w} {place} levels h z i l s k y f j p =
     let m : SkipsMetadata w (place + 4) (get_or w place 0) (place + 4) = (λ n. refl, λ ps n g. absurd (omega (arith, h, n))) in
     let next : place + 4 + 4 ≡ place + 8 = omega arith in
     entry_skips (head_skips refl (omega arith, λ n. refl) m) (λ o r v t q. types_raw levels (omega arith, λ n. sym next) z l s o r v t j q) p
+
+-- an entry is not empty: where none is passed, none stands
+pub none_passed : {w : Bytes} {place r : ℕ} (levels : ℕ) → SkipsEntries w place levels r → r ≤ place → NoEntry w place levels
+none_passed levels g h l s k y f i p st = omega (arith, h, (g l s k y f i p).behind st, ap length p.bytes)
+
+-- what a row that is gone over gives, where its table and its levels are known
+pub steps_over : {w : Bytes} {levels : ℕ} (r t : EntryRow) (o : Option ℕ) → r.w.now ≡ w → r.levels ≡ levels → GivesEntry r o t
+    → (t.w.now ≡ w) × (t.levels ≡ levels) × StepsOver w r.at levels o t.at
+steps_over {levels = levels} r t o e i g =
+    (g.0 ∙ e, g.1 ∙ i, subst (λ v. StepsOver v r.at levels o t.at) e (subst (λ m. StepsOver r.w.now r.at m o t.at) i g.2))
 
 -- Rows of entries
 
