@@ -11,7 +11,6 @@ use Rattle.model.specs.Sheet.{part, text_bytes, head_bytes}
 use Rattle.model.proofs.Lists.{every_append}
 use Rattle.walk.specs.Stands.{Stands, Skips}
 use Rattle.walk.proofs.Standing.{first_stands, second_stands, byte_stands, stands_behind, skip_ahead}
-use Rattle.walk.proofs.Parts.{Ahead}
 use Rattle.walk.proofs.Descents.{head_stands}
 use Rattle.table.specs.Table.{three, no_entry, Rows, none, more, SpellField, SpellRow}
 use Rattle.table.specs.Entries.{NoEntry, StepsOver, GivesEntry}
@@ -36,10 +35,9 @@ module _ {s w : Bytes} {place : ℕ} where
   flags_stand : (l : ℕ) {k : ℕ} {y : Bytes} {f : Field l} (e : SpellField l s k y f) → Stands w place y → get_or w place 0 ≡ e.flags
   flags_stand l e st = byte_stands (subst (Stands w place) e.bytes st)
 
-  pub named_entry : {name : Bytes} {m t : ℕ} {r : Bool} → Ahead w place 1 m → t ≡ three w m → HasName s t name r → NamesEntry s w place name r
-  named_entry {t = t} a j h l k y f n e st u =
-      let st2 = stands_behind (skip_ahead (e.flags ∷ []) refl a.1) (subst (Stands w place) e.bytes st) in
-      let first : t ≡ e.first = j ∙ three_stands e.first _ (omega (arith, e.small)) st2 in
+  pub named_entry : {name : Bytes} {t : ℕ} {r : Bool} → t ≡ three w (place + 1) → HasName s t name r → NamesEntry s w place name r
+  named_entry {t = t} i h l k y f n e st u =
+      let first : t ≡ e.first = i ∙ three_stands e.first _ (omega (arith, e.small)) (stands_behind (skip_ahead (e.flags ∷ []) refl λ z. refl) (subst (Stands w place) e.bytes st)) in
       h e.own.head n (subst (λ p. Stands s p (head_bytes e.own.head)) (sym first) (head_stands l e.own e.stands)) u ∙ ap (λ z. same_bytes z n) e.name
 
 -- Rows

@@ -223,11 +223,22 @@ impl Iterator for EntryRow<'_> {
     }
 }
 
+// The number of three bytes behind the byte at a place: behind an entry's flags, the place of its first occurrence.
+#[tactic(auto, unfolding(crate::specs::Table::three))]
+fn first_at(w: &[u8], at: usize) -> usize
+    ensures { result ≡ three w.now (at + 1) }
+{
+    match w.get(at..) {
+        Some([_, behind @ ..]) => three(behind, 0),
+        _ => 0,
+    }
+}
+
 // Whether the entry that stands at a place of the table has a name, which is given as `name_of` gives one.
 fn has_entry_name(s: &[u8], w: &[u8], at: usize, name: &[u8]) -> bool
     ensures { NamesEntry s.now w.now at name.now result }
 {
-    has_name(s, three(w, walk::ahead(w, at, 1)), name)
+    has_name(s, first_at(w, at), name)
 }
 
 // Whether an entry stands at a place of the table, which may be a row's end, and has a name.
