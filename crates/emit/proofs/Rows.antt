@@ -22,9 +22,11 @@ use Rattle.walk.proofs.Standing.{first_stands, byte_stands, stands_behind}
 use Rattle.walk.proofs.Parts.{Ahead}
 use Rattle.walk.proofs.Descents.{type_stands}
 use Rattle.table.specs.Table.{u24, three, no_entry, Rows, none, more, SpellField, SpellRow}
-use Rattle.table.specs.Entries.{StepsOver, GivesEntry}
+use Rattle.table.specs.Look.{Cut}
+use Rattle.table.specs.Entries.{GivesEntry}
 use Rattle.table.specs.declared.EntryRow.{EntryRow}
 use Rattle.table.proofs.Entries.{steps_over}
+use Rattle.table.proofs.Look.{next_entry, cut_behind, cut_ends, row_begin}
 use Rattle.emit.specs.Emission.{PutsHead, PutsType, PutsEntry, PutsRow, HasEntries}
 use Rattle.emit.proofs.Fronts.{place_is}
 use Rattle.emit.proofs.Putting.{Onward, onward_begin, onward_one, onward_done, onward_beyond, puts_counted_list}
@@ -66,74 +68,49 @@ has_entries {w} {place} {n} e l s k y fs p st = go p.row (subst (Stands w place)
 abbrev pub Begins : (w : Bytes) (place levels : ℕ) → EntryRow → Type 0
 Begins w place levels row = (row.w.now ≡ w) × (row.at ≡ place) × (row.levels ≡ levels)
 
-module _ (l : ℕ) (s w : Bytes) (levels : ℕ) where
-  -- what is left of it; G holds of those
-  record Left (G : List (Field l) → Type 0) (row : EntryRow) : Type 0 where
-    left : List (Field l)
-    bytes : Bytes
-    room : ℕ
-    rows : Rows (λ i z f. SpellField l s i z f) room bytes left
-    stands : Stands w row.at (bytes ++ (no_entry ∷ []))
-    goal : G left
-    of_table : row.w.now ≡ w
-    of_levels : row.levels ≡ levels
+-- it goes on between two entries; G holds of those that are left
+record Left (l : ℕ) (s w : Bytes) (first k : ℕ) (y : Bytes) (fs : List (Field l)) (levels : ℕ) (G : List (Field l) → Type 0) (row : EntryRow) : Type 0 where
+  of_table : row.w.now ≡ w
+  of_levels : row.levels ≡ levels
+  cut : Cut l s first k y fs row.at
+  goal : G cut.after
 
-  left_begin : (G : List (Field l) → Type 0) {first k : ℕ} {y : Bytes} {fs : List (Field l)} (row : EntryRow) → Begins w first levels row → SpellRow l s k y fs → Stands w first y → G fs → Left G row
-  left_begin G row i p st g = record {
-    left = _;
-    bytes = p.row_bytes;
-    room = p.row_room;
-    rows = p.row;
-    stands = subst (λ n. Stands w n (p.row_bytes ++ (no_entry ∷ []))) (sym i.1) (subst (Stands w _) p.bytes st);
-    goal = g;
-    of_table = i.0;
-    of_levels = i.2;
-  }
+module _ {l : ℕ} {s w : Bytes} {first k : ℕ} {y : Bytes} {fs : List (Field l)} (levels : ℕ) (low : l ≤ levels) (st : Stands w first y) where
+  left_begin : (G : List (Field l) → Type 0) (row : EntryRow) → Begins w first levels row → SpellRow l s k y fs → G fs → Left l s w first k y fs levels G row
+  left_begin G row i p g =
+      let c : (d : Cut l s first k y fs row.at) × G d.after = subst (λ n. (d : Cut l s first k y fs n) × G d.after) (sym i.1) (row_begin p, g) in
+      record { of_table = i.0; of_levels = i.2; cut = c.0; goal = c.1 }
 
-  module _ (low : l ≤ levels) (G : List (Field l) → Type 0) (row next : EntryRow) (k : Left G row) where
+  module _ (G : List (Field l) → Type 0) (row next : EntryRow) (left : Left l s w first k y fs levels G row) where
     -- none comes: none is left
     left_done : GivesEntry row None next → G []
-    left_done h = go k.rows k.stands k.goal
-      where
-        go : {i : ℕ} {b : Bytes} {xs : List (Field l)} → Rows (λ i z f. SpellField l s i z f) i b xs → Stands w row.at (b ++ (no_entry ∷ [])) → G xs → G []
-        go none st g = g
-        go (more {k = i} {y = y} {ys = ys} {x = x} p r) st g =
-            absurd ((steps_over row next None k.of_table k.of_levels h).2.1 l s i y x low p
-            (first_stands y (ys ++ (no_entry ∷ [])) (subst (Stands w row.at) (append_assoc y ys (no_entry ∷ [])) st)))
+    left_done h = subst G (cut_ends left.cut st low (steps_over row next None left.of_table left.of_levels h).2.1).0 left.goal
 
     -- one comes: it stands there, and the others are left
     left_again : {there : ℕ} (H : List (Field l) → Type 0) → GivesEntry row (Some there) next
-        → ((i : ℕ) (b : Bytes) (x : Field l) (xs : List (Field l)) → SpellField l s i b x → Stands w there b → G (x ∷ xs) → H xs) → Left H next
-    left_again {there} H h onward = go k.rows k.stands k.goal (steps_over row next (Some there) k.of_table k.of_levels h)
-      where
-        go : {i : ℕ} {b : Bytes} {xs : List (Field l)} → Rows (λ i z f. SpellField l s i z f) i b xs → Stands w row.at (b ++ (no_entry ∷ [])) → G xs
-            → (next.w.now ≡ w) × (next.levels ≡ levels) × StepsOver w row.at levels (Some there) next.at → Left H next
-        go none st g (e, i, o) = absurd (o.1 (byte_stands st))
-        go (more {k = i} {m = m} {y = y} {ys = ys} {x = x} {xs = xs} p rest) st g (e, j, o) =
-            let st2 = subst (Stands w row.at) (append_assoc y ys (no_entry ∷ [])) st in
-            record {
-              left = xs;
-              bytes = ys;
-              room = m;
-              rows = rest;
-              stands = stands_behind (o.4 l s i y x low p) st2;
-              goal = onward i y x xs p (subst (λ n. Stands w n y) (sym o.0) (first_stands y (ys ++ (no_entry ∷ [])) st2)) g;
-              of_table = e;
-              of_levels = j;
-            }
+        → ((i : ℕ) (b : Bytes) (x : Field l) (xs : List (Field l)) → SpellField l s i b x → Stands w there b → G (x ∷ xs) → H xs) → Left l s w first k y fs levels H next
+    left_again {there} H h onward =
+        let (e, i, o) = steps_over row next (Some there) left.of_table left.of_levels h in
+        let a = next_entry left.cut st o.1 in
+        record {
+          of_table = e;
+          of_levels = i;
+          cut = cut_behind left.cut st a (o.4 l s a.this_room a.this_bytes a.this low a.spelt);
+          goal = onward a.this_room a.this_bytes a.this a.rest a.spelt (subst (λ n. Stands w n a.this_bytes) (sym o.0) (first_stands a.this_bytes _ a.stands)) (subst G a.fields left.goal);
+        }
 
   -- all that come are all there are
-  left_counted : l ≤ levels → (n m : ℕ) (xs : List ℕ) (row t u : EntryRow) → Left (λ left. n + length left ≡ m) row → Yields GivesEntry row xs t → GivesEntry t None u → n + length xs ≡ m
-  left_counted low n m [] row t u k e h = left_done low (λ left. n + length left ≡ m) t u (subst (Left (λ left. n + length left ≡ m)) e k) h
-  left_counted low n m (x ∷ xs) row t u k (j, g, e) h =
-      let on = left_again low (λ left. n + length left ≡ m) row j k (λ left. n + 1 + length left ≡ m) g λ i b x xs v st d. omega (arith, d) in
-      omega (arith, left_counted low (n + 1) m xs j t u on e h)
+  left_counted : (n m : ℕ) (xs : List ℕ) (row t u : EntryRow) → Left l s w first k y fs levels (λ left. n + length left ≡ m) row → Yields GivesEntry row xs t → GivesEntry t None u → n + length xs ≡ m
+  left_counted n m [] row t u left e h = left_done (λ left. n + length left ≡ m) t u (subst (Left l s w first k y fs levels (λ left. n + length left ≡ m)) e left) h
+  left_counted n m (x ∷ xs) row t u left (j, g, e) h =
+      let on = left_again (λ left. n + length left ≡ m) row j left (λ left. n + 1 + length left ≡ m) g λ i b x xs v st d. omega (arith, d) in
+      omega (arith, left_counted (n + 1) m xs j t u on e h)
 
 -- Their fields
 
 -- what is left of each row that stands from `first` on
 pub record Emitting (s w : Bytes) (first levels : ℕ) (o₀ : Output) (row : EntryRow) (o : Output) : Type 0 where
-  left : (l k : ℕ) (y : Bytes) (fs : List (Field l)) → l ≤ levels → SpellRow l s k y fs → Stands w first y → Left l s w levels (Onward (field_bytes (type_bytes l)) fs o₀ o) row
+  left : (l k : ℕ) (y : Bytes) (fs : List (Field l)) → l ≤ levels → SpellRow l s k y fs → Stands w first y → Left l s w first k y fs levels (Onward (field_bytes (type_bytes l)) fs o₀ o) row
 
 -- all are put
 abbrev PutsEntries : (s w : Bytes) (first levels : ℕ) (o o' : Output) → Type 0
@@ -143,7 +120,7 @@ PutsEntries s w first levels o o' =
 module _ (s w : Bytes) (first levels : ℕ) (o₀ : Output) where
   pub emitting_begin : {row : EntryRow} → Begins w first levels row → Emitting s w first levels o₀ row o₀
   emitting_begin {row} i = record {
-    left = λ l k y fs h p st. left_begin l s w levels (Onward (field_bytes (type_bytes l)) fs o₀ o₀) row i p st (onward_begin (field_bytes (type_bytes l)));
+    left = λ l k y fs h p st. left_begin levels h st (Onward (field_bytes (type_bytes l)) fs o₀ o₀) row i p (onward_begin (field_bytes (type_bytes l)));
   }
 
   module _ {row : EntryRow} {o : Output} (c : Emitting s w first levels o₀ row o) where
@@ -153,12 +130,12 @@ module _ (s w : Bytes) (first levels : ℕ) (o₀ : Output) where
     module _ (behind : EntryRow) where
       pub emitting_done : GivesEntry row None behind → PutsEntries s w first levels o₀ o
       emitting_done h l k y fs i r st =
-          onward_done (field_bytes (type_bytes l)) (left_done l s w levels i (Onward (field_bytes (type_bytes l)) fs o₀ o) row behind (c.left l k y fs i r st) h)
+          onward_done (field_bytes (type_bytes l)) (left_done levels i st (Onward (field_bytes (type_bytes l)) fs o₀ o) row behind (c.left l k y fs i r st) h)
 
       pub emitting_again : {place : ℕ} {o₁ : Output} → GivesEntry row (Some place) behind → PutsEntry s w place levels o o₁ → Emitting s w first levels o₀ behind o₁
       emitting_again {o₁ = o₁} h f = record {
         left = λ l k y fs i r st.
-            left_again l s w levels i (Onward (field_bytes (type_bytes l)) fs o₀ o) row behind (c.left l k y fs i r st) (Onward (field_bytes (type_bytes l)) fs o₀ o₁) h
+            left_again levels i st (Onward (field_bytes (type_bytes l)) fs o₀ o) row behind (c.left l k y fs i r st) (Onward (field_bytes (type_bytes l)) fs o₀ o₁) h
             λ j b x xs v u o. onward_one (field_bytes (type_bytes l)) (f l j b x i v u) o;
       }
 
@@ -166,6 +143,5 @@ module _ (s w : Bytes) (first levels : ℕ) (o₀ : Output) where
 pub row_puts : (s w : Bytes) (place levels : ℕ) {row : EntryRow} {n : ℕ} {o o₁ o₂ : Output} → Begins w place levels row → ((xs : List ℕ) × Drains GivesEntry row xs × (n ≡ length xs))
     → Puts (n % 256 ∷ n / 256 % 256 ∷ []) o o₁ → PutsEntries s w place levels o₁ o₂ → PutsRow s w place levels o o₂
 row_puts s w place levels {row} i (xs, (u, (t, e, h)), c) two f l k y fs j p st =
-    puts_counted_list (field_bytes (type_bytes l)) fs
-    (omega (arith, c, left_counted l s w levels j 0 (length fs) xs row t u (left_begin l s w levels (λ left. 0 + length left ≡ length fs) row i p st (omega arith)) e h))
-    (fields_long l fs) two (f l k y fs j p st)
+    let all = left_counted levels j st 0 (length fs) xs row t u (left_begin levels j st (λ left. 0 + length left ≡ length fs) row i p (omega arith)) e h in
+    puts_counted_list (field_bytes (type_bytes l)) fs (omega (arith, c, all)) (fields_long l fs) two (f l k y fs j p st)

@@ -1,5 +1,5 @@
--- Looking up a name: one entry, the turns of the scan, and what was found.
-use Prim.Native.Nat.{ℕ, ◌+◌, ◌≤◌}
+-- A place between the entries of a row: passing over them, and looking up a name: one entry, the turns of the scan, and what was found.
+use Prim.Native.Nat.{ℕ, ◌+◌, ◌≤◌, ◌<◌}
 use native.Mathlib.Omega.{arith}
 use mathlib.Core.Path.{◌≡◌, refl, sym, ap, subst, ◌∙◌}
 use mathlib.Core.List.{List, [], ◌∷◌, ◌++◌, append_assoc, append-nil}
@@ -13,7 +13,7 @@ use Rattle.walk.specs.Stands.{Stands, Skips}
 use Rattle.walk.proofs.Standing.{first_stands, second_stands, byte_stands, stands_behind, skip_ahead}
 use Rattle.walk.proofs.Descents.{head_stands}
 use Rattle.table.specs.Table.{three, no_entry, Rows, none, more, SpellField, SpellRow}
-use Rattle.table.specs.Entries.{NoEntry, StepsOver, GivesEntry}
+use Rattle.table.specs.Entries.{SkipsEntries, NoEntry, StepsOver, GivesEntry}
 use Rattle.table.specs.declared.EntryRow.{EntryRow}
 use Rattle.table.specs.Look.{NamesEntry, Cut, FoundAt, Finds}
 use denote.Ref.{Bor}
@@ -24,7 +24,7 @@ use Rattle.std.specs.Option.{IfSome, ok_or}
 use Rattle.std.specs.List.{FoldsTo}
 use Rattle.std.specs.Iterator.{Yields, FindsItem}
 use Rattle.table.proofs.Numbers.{three_stands}
-use Rattle.table.proofs.Entries.{steps_over}
+use Rattle.table.proofs.Entries.{SkipsRows, steps_over}
 
 -- what `has_name` of a field of the train ensures
 abbrev HasName : Bytes → ℕ → Bytes → Bool → Type 0
@@ -51,7 +51,7 @@ rows_append {P = P} {m = m} {z = z} {ys = ys} (more {k = i} {m = j} {y = a} {ys 
     let e : i + (j + m) ≡ i + j + m = omega arith in
     subst (λ n. Rows P n ((a ++ b) ++ z) (x ∷ (xs ++ ys))) e (subst (λ c. Rows P (i + (j + m)) c (x ∷ (xs ++ ys))) (sym (append_assoc a b z)) (more p (rows_append q r)))
 
-rows_none : {A : Type 0} {P : ℕ → Bytes → A → Type 0} {k : ℕ} {y : Bytes} {xs : List A} → Rows P k y xs → xs ≡ [] → length y ≡ 0
+rows_none : {A : Type 0} {P : ℕ → Bytes → A → Type 0} {k : ℕ} {y : Bytes} {xs : List A} → Rows P k y xs → xs ≡ [] → y ≡ []
 rows_none none e = refl
 rows_none (more p r) e = absurd (let z : ◌≡◌ {A = ℕ} 0 1 = cc in omega arith)
 
@@ -70,7 +70,7 @@ module _ {l : ℕ} {s w : Bytes} {row k : ℕ} {y : Bytes} {fs : List (Field l)}
   after_stands = subst (λ p. Stands w p (c.after_bytes ++ (no_entry ∷ []))) (sym c.stands) (second_stands c.before_bytes (c.after_bytes ++ (no_entry ∷ [])) (subst (Stands w row) c.bytes st))
 
 -- the entry at such a place, if it is not the end
-module _ {l : ℕ} {s w : Bytes} {row k : ℕ} {y : Bytes} {fs : List (Field l)} {place : ℕ} (name : Bytes) (c : Cut l s row k y fs place) (st : Stands w row y) where
+module _ {l : ℕ} {s w : Bytes} {row k : ℕ} {y : Bytes} {fs : List (Field l)} {place : ℕ} (c : Cut l s row k y fs place) (st : Stands w row y) where
   -- the next one
   pub record Next : Type 0 where
     pub this : Field l
@@ -108,7 +108,7 @@ module _ {l : ℕ} {s w : Bytes} {row k : ℕ} {y : Bytes} {fs : List (Field l)}
 
   module _ (n : Next) where
     -- it is the one
-    pub found_here : same_bytes n.this.head.name name ≡ true → FoundAt l s row k y fs name place
+    pub found_here : {name : Bytes} → same_bytes n.this.head.name name ≡ true → FoundAt l s row k y fs name place
     found_here h = record {
       before = c.before;
       this = n.this;
@@ -157,17 +157,7 @@ module _ {l : ℕ} {s w : Bytes} {row k : ℕ} {y : Bytes} {fs : List (Field l)}
           absurd (never l s k z f i p
           (first_stands z (zs ++ (no_entry ∷ [])) (subst (Stands w place) (append_assoc z zs (no_entry ∷ [])) (subst (λ v. Stands w place (v ++ (no_entry ∷ []))) e₂ (after_stands c st)))))
 
--- The scan
-
--- a place between entries, none before it having the name
-pub record Passed (l : ℕ) (s : Bytes) (row k : ℕ) (y : Bytes) (fs : List (Field l)) (name : Bytes) (place : ℕ) : Type 0 where
-  pub cut : Cut l s row k y fs place
-  pub others : Every (λ f. same_bytes f.head.name name ≡ false) cut.before
-
-pub record Scan (s w : Bytes) (row : ℕ) (name : Bytes) (levels place : ℕ) : Type 0 where
-  pub passed : (l k : ℕ) (y : Bytes) (fs : List (Field l)) (n : Bytes) → l ≤ levels → SpellRow l s k y fs → Stands w row y → name ≡ part text_bytes n
-      → Passed l s row k y fs n place
-
+-- the row's front
 abbrev pub row_begin : {l : ℕ} {s : Bytes} {row k : ℕ} {y : Bytes} {fs : List (Field l)} → SpellRow l s k y fs → Cut l s row k y fs row
 row_begin {l} {s} {row} {k} {y} {fs} p = record {
   before = [];
@@ -184,6 +174,51 @@ row_begin {l} {s} {row} {k} {y} {fs} p = record {
   room = omega (arith, p.room);
 }
 
+-- at the end: none is left, the end stands there, and the row ends behind it
+pub cut_ends : {l levels : ℕ} {s w : Bytes} {row k : ℕ} {y : Bytes} {fs : List (Field l)} {place : ℕ} (c : Cut l s row k y fs place) → Stands w row y → l ≤ levels → NoEntry w place levels
+    → (c.after ≡ []) × (get_or w place 0 ≡ no_entry) × (place + 1 ≡ row + length y)
+cut_ends {w = w} {place = place} c st i never =
+    let z = end_here c st i never in
+    let bytes = rows_none c.row_after z in (
+      z,
+      byte_stands (subst (λ b. Stands w place (b ++ (no_entry ∷ []))) bytes (after_stands c st)),
+      omega (arith, c.stands, ap length c.bytes, length-append c.before_bytes (c.after_bytes ++ (no_entry ∷ [])), ap (λ b. length (b ++ (no_entry ∷ []))) bytes),
+    )
+
+-- A row that is passed over
+
+-- a place between the entries of each row that stands from `first` on
+pub record Skipping (w : Bytes) (first levels place : ℕ) : Type 0 where
+  cut : (l : ℕ) (s : Bytes) (k : ℕ) (y : Bytes) (fs : List (Field l)) → l ≤ levels → SpellRow l s k y fs → Stands w first y → Cut l s first k y fs place
+
+pub skipping_begin : {w : Bytes} (first levels : ℕ) → Skipping w first levels first
+skipping_begin first levels = record { cut = λ l s k y fs i p st. row_begin p }
+
+module _ {w : Bytes} {first : ℕ} (levels : ℕ) {place : ℕ} (k : Skipping w first levels place) where
+  pub skipping_again : {n r : ℕ} → n ≡ get_or w place 0 → (n ≡ no_entry → ⊥) → SkipsEntries w place levels r → Skipping w first levels r
+  skipping_again e never g = record {
+    cut = λ l s j y fs i p st.
+        let d = k.cut l s j y fs i p st in
+        let a = next_entry d st λ z. never (e ∙ z) in
+        cut_behind d st a (g l s a.this_room a.this_bytes a.this i a.spelt);
+  }
+
+  pub skipping_done : {r : ℕ} → NoEntry w place levels → (get_or w place 0 ≡ no_entry → place < length w → r ≡ place + 1) → SkipsRows w first levels r
+  skipping_done never h l s j y fs i p = record {
+    behind = λ st. let (left, mark, end) = cut_ends (k.cut l s j y fs i p st) st i never in omega (arith, h mark (omega (arith, end, st.inside)), end);
+  }
+
+-- The scan
+
+-- a place between entries, none before it having the name
+pub record Passed (l : ℕ) (s : Bytes) (row k : ℕ) (y : Bytes) (fs : List (Field l)) (name : Bytes) (place : ℕ) : Type 0 where
+  pub cut : Cut l s row k y fs place
+  pub others : Every (λ f. same_bytes f.head.name name ≡ false) cut.before
+
+pub record Scan (s w : Bytes) (row : ℕ) (name : Bytes) (levels place : ℕ) : Type 0 where
+  pub passed : (l k : ℕ) (y : Bytes) (fs : List (Field l)) (n : Bytes) → l ≤ levels → SpellRow l s k y fs → Stands w row y → name ≡ part text_bytes n
+      → Passed l s row k y fs n place
+
 -- what `scan` ensures of a row
 abbrev pub FindsIn : Bytes → Bytes → ℕ → Bytes → ℕ → Result ℕ ℕ → Type 0
 FindsIn s w row name levels r =
@@ -197,43 +232,34 @@ module _ {s w : Bytes} (row : ℕ) (name : Bytes) (levels : ℕ) where
     pub scan_absent : StepsOver w place levels None next → FindsIn s w row name levels (Err next)
     scan_absent (e, never) l k y fs n i p st u =
         let d = c.passed l k y fs n i p st u in
-        let z = end_here n d.cut st i never in
+        let (left, mark, end) = cut_ends d.cut st i never in
         record {
-          others = subst (Every (λ f. same_bytes f.head.name n ≡ false)) (sym (d.cut.fields ∙ ap (λ z. d.cut.before ++ z) z ∙ append-nil d.cut.before)) d.others;
-          end =
-              omega (
-                arith,
-                e,
-                d.cut.stands,
-                ap length d.cut.bytes,
-                length-append d.cut.before_bytes (d.cut.after_bytes ++ (no_entry ∷ [])),
-                length-append d.cut.after_bytes (no_entry ∷ []),
-                rows_none d.cut.row_after z,
-              );
+          others = subst (Every (λ f. same_bytes f.head.name n ≡ false)) (sym (d.cut.fields ∙ ap (λ z. d.cut.before ++ z) left ∙ append-nil d.cut.before)) d.others;
+          end = omega (arith, e, end);
         }
 
     module _ {x : ℕ} (g : StepsOver w place levels (Some x) next) {b : Bool} (v : NamesEntry s w x name b) where
-      here : {l k : ℕ} {y : Bytes} {fs : List (Field l)} (n : Bytes) (d : Cut l s row k y fs place) (st : Stands w row y) → Next n d st
-      here n d st = next_entry n d st g.1
+      here : {l k : ℕ} {y : Bytes} {fs : List (Field l)} (d : Cut l s row k y fs place) (st : Stands w row y) → Next d st
+      here d st = next_entry d st g.1
 
       verdict : {l k : ℕ} {y : Bytes} {fs : List (Field l)} (n : Bytes) (d : Cut l s row k y fs place) (st : Stands w row y) → name ≡ part text_bytes n
-          → b ≡ same_bytes (here n d st).this.head.name n
+          → b ≡ same_bytes (here d st).this.head.name n
       verdict {l} n d st u =
-          let a = here n d st in
+          let a = here d st in
           subst (λ m. NamesEntry s w m name b) g.0 v l a.this_room a.this_bytes a.this n a.spelt (first_stands a.this_bytes _ a.stands) u
 
       pub scan_found : b ≡ true → FindsIn s w row name levels (Ok x)
       scan_found h l k y fs n i p st u =
           let d = c.passed l k y fs n i p st u in
-          subst (FoundAt l s row k y fs n) (sym g.0) (found_here n d.cut st (here n d.cut st) (sym (verdict n d.cut st u) ∙ h))
+          subst (FoundAt l s row k y fs n) (sym g.0) (found_here d.cut st (here d.cut st) (sym (verdict n d.cut st u) ∙ h))
 
       pub scan_again : b ≡ false → Scan s w row name levels next
       scan_again h = record {
         passed = λ l k y fs n i p st u.
             let d = c.passed l k y fs n i p st u in
-            let a = here n d.cut st in
+            let a = here d.cut st in
             record {
-              cut = cut_behind n d.cut st a (g.4 l s a.this_room a.this_bytes a.this i a.spelt);
+              cut = cut_behind d.cut st a (g.4 l s a.this_room a.this_bytes a.this i a.spelt);
               others = every_append (λ f. same_bytes f.head.name n ≡ false) d.cut.before (a.this ∷ []) d.others (sym (verdict n d.cut st u) ∙ h, tt);
             };
       }
@@ -273,5 +299,5 @@ module _ {s w : Bytes} (row : ℕ) (name : Bytes) (levels : ℕ) {F : Type 0} (g
 pub hint_found : {s w : Bytes} {row hint : ℕ} {name : Bytes} {b : Bool} → b ≡ true → NamesEntry s w hint name b × (get_or w hint 0 ≡ no_entry → b ≡ false) → {l k : ℕ} {y : Bytes} {fs : List (Field l)} (n : Bytes) → Stands w row y → name ≡ part text_bytes n
     → Cut l s row k y fs hint → FoundAt l s row k y fs n hint
 hint_found e v {l} n st u d =
-    let x = next_entry n d st λ z. false≢true (sym (v.1 z) ∙ e) in
-    found_here n d st x (sym (sym e ∙ v.0 l x.this_room x.this_bytes x.this n x.spelt (first_stands x.this_bytes _ x.stands) u))
+    let x = next_entry d st λ z. false≢true (sym (v.1 z) ∙ e) in
+    found_here d st x (sym (sym e ∙ v.0 l x.this_room x.this_bytes x.this n x.spelt (first_stands x.this_bytes _ x.stands) u))
