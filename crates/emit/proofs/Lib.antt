@@ -1,5 +1,4 @@
 -- The laws that the proofs of `emit` use.
-pub mod Going
 pub mod Fronts
 pub mod Putting
 pub mod Copies

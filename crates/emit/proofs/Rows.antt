@@ -7,6 +7,8 @@ use mathlib.Core.Bool.{not}
 use lib.ListN.{length, get_or, length-append}
 use lib.Dec.{eqb}
 use borrow.Author.Tests.{eq-eqb, ne_eqb}
+use Rattle.std.specs.Prelude.{None, Some}
+use Rattle.std.specs.Iterator.{Yields, Drains}
 use Rattle.model.specs.Numbers.{max_sheet_bytes}
 use Rattle.model.specs.Bytes.{Bytes}
 use Rattle.model.specs.Tree.{Head, Field}
@@ -16,15 +18,18 @@ use Rattle.buffer.specs.declared.Output.{Output}
 use Rattle.buffer.specs.Puts.{Puts}
 use Rattle.buffer.proofs.Puts.{puts_join}
 use Rattle.walk.specs.Stands.{Stands, Skips}
-use Rattle.walk.proofs.Standing.{byte_stands, stands_behind}
+use Rattle.walk.proofs.Standing.{first_stands, byte_stands, stands_behind}
 use Rattle.walk.proofs.Parts.{Ahead}
 use Rattle.walk.proofs.Descents.{type_stands}
 use Rattle.table.specs.Table.{u24, three, no_entry, Rows, none, more, SpellField, SpellRow}
-use Rattle.table.proofs.Entries.{SkipsEntries}
-use Rattle.emit.specs.Emission.{PutsHead, PutsType, PutsEntry, PutsEntries, PutsRow, HasEntries, CountsEntries}
-use Rattle.emit.proofs.Going.{Going, going_out, going_done, going_again, going_stuck}
+use Rattle.table.specs.Look.{Cut}
+use Rattle.table.specs.Entries.{GivesEntry}
+use Rattle.table.specs.declared.EntryRow.{EntryRow}
+use Rattle.table.proofs.Entries.{steps_over}
+use Rattle.table.proofs.Look.{next_entry, cut_behind, cut_ends, row_begin}
+use Rattle.emit.specs.Emission.{PutsHead, PutsType, PutsEntry, PutsRow, HasEntries}
 use Rattle.emit.proofs.Fronts.{place_is}
-use Rattle.emit.proofs.Putting.{Onward, onward_one, onward_done, onward_beyond, puts_counted_list}
+use Rattle.emit.proofs.Putting.{Onward, onward_begin, onward_one, onward_done, onward_beyond, puts_counted_list}
 
 -- an entry: the head, then the type behind it
 pub entry_puts : {s w : Bytes} (levels : ℕ) {place m first inner own : ℕ} {o o₁ o₂ : Output} → PutsHead s w place o o₁ → Ahead w place 1 m → first ≡ three w m
@@ -47,100 +52,96 @@ fields_long : (l : ℕ) (fs : List (Field l)) → length fs ≤ length (each (fi
 fields_long l [] = omega arith
 fields_long l (f ∷ fs) = omega (arith, fields_long l fs, field_long l f, length-append (field_bytes (type_bytes l) f) (each (field_bytes (type_bytes l)) fs))
 
--- The loops over the entries of a row
-
-module _ (l : ℕ) (s : Bytes) where
-  -- an entry, by the bytes that spell it
-  abbrev Entry : ℕ → Bytes → Field l → Type 0
-  Entry i z f = SpellField l s i z f
-
-  -- what is left of a row
-  abbrev Left : (w : Bytes) → (List (Field l) → Type 0) → ℕ → Type 0
-  Left w G place = Going Entry (no_entry ∷ []) w G place
-
-  module _ {w : Bytes} {place : ℕ} where
-    -- an entry does not begin as the end of a row does
-    not_end : {i : ℕ} {b : Bytes} {x : Field l} (c : Bytes) → Entry i b x → Stands w place (b ++ c) → get_or w place 0 < 8
-    not_end {x = x} c e st = let j = byte_stands (subst (λ b. Stands w place (b ++ c)) e.bytes st) in omega (arith, j, e.small_flags)
-
-    module _ (G : List (Field l) → Type 0) (k : Left w G place) where
-      left_out : length w ≤ place → ⊥
-      left_out h = going_out Entry (no_entry ∷ []) w k h (omega arith)
-
-      module _ {n : ℕ} (e : n ≡ get_or w place 0) where
-        left_done : n ≡ no_entry → G []
-        left_done h = going_done Entry (no_entry ∷ []) w k λ i b c x v u. omega (arith, h, e, not_end c v u)
-
-        module _ (never : n ≡ no_entry → ⊥) {levels r : ℕ} (low : l ≤ levels) (skip : SkipsEntries w place levels r) where
-          left_again : (H : List (Field l) → Type 0) → ((i : ℕ) (b : Bytes) (x : Field l) (xs : List (Field l)) → Entry i b x → Stands w place b → G (x ∷ xs) → H xs) → Left w H r
-          left_again H f = going_again Entry (no_entry ∷ []) w k (λ u. never (e ∙ byte_stands u)) (λ i b x v. skip l s i b x low v) f
-
-          left_stuck : r ≤ place → ⊥
-          left_stuck h = going_stuck Entry (no_entry ∷ []) w k (λ u. never (e ∙ byte_stands u)) (λ i b x v. skip l s i b x low v) (λ i b x v. omega (arith, ap length v.bytes)) h
-
--- Whether there are any, and how many
-
+-- whether a row of entries has any
 pub has_entries : {w : Bytes} {place n : ℕ} → n ≡ get_or w place 0 → HasEntries w place (not (eqb n no_entry))
 has_entries {w} {place} {n} e l s k y fs p st = go p.row (subst (Stands w place) p.bytes st)
   where
     go : {i : ℕ} {b : Bytes} {fs : List (Field l)} → Rows (λ i z f. SpellField l s i z f) i b fs → Stands w place (b ++ (no_entry ∷ [])) → not (eqb n no_entry) ≡ stands fs
     go none st = ap not (eq-eqb n no_entry (e ∙ byte_stands st))
     go (more {y = y} {ys = ys} p r) st =
-        ap not (ne_eqb n no_entry λ h. omega (arith, h, e, not_end l s (ys ++ (no_entry ∷ [])) p (subst (Stands w place) (append_assoc y ys (no_entry ∷ [])) st)))
+        let st2 = first_stands y (ys ++ (no_entry ∷ [])) (subst (Stands w place) (append_assoc y ys (no_entry ∷ [])) st) in
+        ap not (ne_eqb n no_entry λ h. omega (arith, h, e, p.small_flags, byte_stands (subst (Stands w place) p.bytes st2)))
 
--- those passed and those left are all
-pub record Counting (w : Bytes) (first levels place count : ℕ) : Type 0 where
-  pub left : (l : ℕ) (s : Bytes) (k : ℕ) (y : Bytes) (fs : List (Field l)) → l ≤ levels → SpellRow l s k y fs → Stands w first y → Left l s w (λ left. count + length left ≡ length fs) place
-  pub low : count ≤ place
+-- A row that is gone over
 
-module _ {w : Bytes} {first levels place count : ℕ} (c : Counting w first levels place count) where
-  pub counting_out : length w ≤ place → CountsEntries w first levels count
-  counting_out h l s k y fs i p st = absurd (left_out l s (λ left. count + length left ≡ length fs) (c.left l s k y fs i p st) h)
+-- a row that begins at a place of the table
+abbrev pub Begins : (w : Bytes) (place levels : ℕ) → EntryRow → Type 0
+Begins w place levels row = (row.w.now ≡ w) × (row.at ≡ place) × (row.levels ≡ levels)
 
-  module _ {n : ℕ} (e : n ≡ get_or w place 0) where
-    pub counting_done : n ≡ no_entry → CountsEntries w first levels count
-    counting_done h l s k y fs i p st = omega (arith, left_done l s (λ left. count + length left ≡ length fs) (c.left l s k y fs i p st) e h)
+-- it goes on between two entries; G holds of those that are left
+record Left (l : ℕ) (s w : Bytes) (first k : ℕ) (y : Bytes) (fs : List (Field l)) (levels : ℕ) (G : List (Field l) → Type 0) (row : EntryRow) : Type 0 where
+  of_table : row.w.now ≡ w
+  of_levels : row.levels ≡ levels
+  cut : Cut l s first k y fs row.at
+  goal : G cut.after
 
-    pub counting_stuck : {r : ℕ} → (n ≡ no_entry → ⊥) → SkipsEntries w place levels r → r ≤ place → CountsEntries w first levels count
-    counting_stuck never f h l s k y fs i p st = absurd (left_stuck l s (λ left. count + length left ≡ length fs) (c.left l s k y fs i p st) e never i f h)
+module _ {l : ℕ} {s w : Bytes} {first k : ℕ} {y : Bytes} {fs : List (Field l)} (levels : ℕ) (low : l ≤ levels) (st : Stands w first y) where
+  left_begin : (G : List (Field l) → Type 0) (row : EntryRow) → Begins w first levels row → SpellRow l s k y fs → G fs → Left l s w first k y fs levels G row
+  left_begin G row i p g =
+      let c : (d : Cut l s first k y fs row.at) × G d.after = subst (λ n. (d : Cut l s first k y fs n) × G d.after) (sym i.1) (row_begin p, g) in
+      record { of_table = i.0; of_levels = i.2; cut = c.0; goal = c.1 }
 
-    pub counting_again : {r : ℕ} → (n ≡ no_entry → ⊥) → SkipsEntries w place levels r → place < r → Counting w first levels r (count + 1)
-    counting_again {r} never f h = record {
-      left = λ l s k y fs i p st.
-          left_again l s (λ left. count + length left ≡ length fs) (c.left l s k y fs i p st) e never i f (λ left. count + 1 + length left ≡ length fs) λ j b x xs v u g. omega (arith, g);
-      low = omega (arith, c.low, h);
-    }
+  module _ (G : List (Field l) → Type 0) (row next : EntryRow) (left : Left l s w first k y fs levels G row) where
+    -- none comes: none is left
+    left_done : GivesEntry row None next → G []
+    left_done h = subst G (cut_ends left.cut st low (steps_over row next None left.of_table left.of_levels h).2.1).0 left.goal
+
+    -- one comes: it stands there, and the others are left
+    left_again : {there : ℕ} (H : List (Field l) → Type 0) → GivesEntry row (Some there) next
+        → ((i : ℕ) (b : Bytes) (x : Field l) (xs : List (Field l)) → SpellField l s i b x → Stands w there b → G (x ∷ xs) → H xs) → Left l s w first k y fs levels H next
+    left_again {there} H h onward =
+        let (e, i, o) = steps_over row next (Some there) left.of_table left.of_levels h in
+        let a = next_entry left.cut st o.1 in
+        record {
+          of_table = e;
+          of_levels = i;
+          cut = cut_behind left.cut st a (o.4 l s a.this_room a.this_bytes a.this low a.spelt);
+          goal = onward a.this_room a.this_bytes a.this a.rest a.spelt (subst (λ n. Stands w n a.this_bytes) (sym o.0) (first_stands a.this_bytes _ a.stands)) (subst G a.fields left.goal);
+        }
+
+  -- all that come are all there are
+  left_counted : (n m : ℕ) (xs : List ℕ) (row t u : EntryRow) → Left l s w first k y fs levels (λ left. n + length left ≡ m) row → Yields GivesEntry row xs t → GivesEntry t None u → n + length xs ≡ m
+  left_counted n m [] row t u left e h = left_done (λ left. n + length left ≡ m) t u (subst (Left l s w first k y fs levels (λ left. n + length left ≡ m)) e left) h
+  left_counted n m (x ∷ xs) row t u left (j, g, e) h =
+      let on = left_again (λ left. n + length left ≡ m) row j left (λ left. n + 1 + length left ≡ m) g λ i b x xs v st d. omega (arith, d) in
+      omega (arith, left_counted (n + 1) m xs j t u on e h)
 
 -- Their fields
 
 -- what is left of each row that stands from `first` on
-pub record Emitting (s w : Bytes) (first levels : ℕ) (o₀ : Output) (place : ℕ) (o : Output) : Type 0 where
-  pub left : (l k : ℕ) (y : Bytes) (fs : List (Field l)) → l ≤ levels → SpellRow l s k y fs → Stands w first y → Left l s w (Onward (field_bytes (type_bytes l)) fs o₀ o) place
+pub record Emitting (s w : Bytes) (first levels : ℕ) (o₀ : Output) (row : EntryRow) (o : Output) : Type 0 where
+  left : (l k : ℕ) (y : Bytes) (fs : List (Field l)) → l ≤ levels → SpellRow l s k y fs → Stands w first y → Left l s w first k y fs levels (Onward (field_bytes (type_bytes l)) fs o₀ o) row
 
-module _ {s w : Bytes} {first : ℕ} (levels : ℕ) {o₀ : Output} {place : ℕ} {o : Output} (c : Emitting s w first levels o₀ place o) where
-  pub emitting_out : length w ≤ place → PutsEntries s w first levels o₀ o
-  emitting_out h l k y fs i r st = absurd (left_out l s (Onward (field_bytes (type_bytes l)) fs o₀ o) (c.left l k y fs i r st) h)
+-- all are put
+abbrev PutsEntries : (s w : Bytes) (first levels : ℕ) (o o' : Output) → Type 0
+PutsEntries s w first levels o o' =
+    (l k : ℕ) (y : Bytes) (fs : List (Field l)) → l ≤ levels → SpellRow l s k y fs → Stands w first y → Puts (each (field_bytes (type_bytes l)) fs) o o'
 
-  pub emitting_beyond : max_sheet_bytes < o.written → PutsEntries s w first levels o₀ o
-  emitting_beyond h l k y fs i r st = onward_beyond (field_bytes (type_bytes l)) h (c.left l k y fs i r st).goal
+module _ (s w : Bytes) (first levels : ℕ) (o₀ : Output) where
+  pub emitting_begin : {row : EntryRow} → Begins w first levels row → Emitting s w first levels o₀ row o₀
+  emitting_begin {row} i = record {
+    left = λ l k y fs h p st. left_begin levels h st (Onward (field_bytes (type_bytes l)) fs o₀ o₀) row i p (onward_begin (field_bytes (type_bytes l)));
+  }
 
-  module _ {n : ℕ} (e : n ≡ get_or w place 0) where
-    pub emitting_done : n ≡ no_entry → PutsEntries s w first levels o₀ o
-    emitting_done h l k y fs i r st = onward_done (field_bytes (type_bytes l)) (left_done l s (Onward (field_bytes (type_bytes l)) fs o₀ o) (c.left l k y fs i r st) e h)
+  module _ {row : EntryRow} {o : Output} (c : Emitting s w first levels o₀ row o) where
+    pub emitting_beyond : max_sheet_bytes < o.written → PutsEntries s w first levels o₀ o
+    emitting_beyond h l k y fs i r st = onward_beyond (field_bytes (type_bytes l)) h (c.left l k y fs i r st).goal
 
-    module _ (never : n ≡ no_entry → ⊥) {behind : ℕ} (skip : SkipsEntries w place levels behind) {o₁ : Output} where
-      pub emitting_stuck : behind ≤ place → PutsEntries s w first levels o₀ o₁
-      emitting_stuck h l k y fs i r st = absurd (left_stuck l s (Onward (field_bytes (type_bytes l)) fs o₀ o) (c.left l k y fs i r st) e never i skip h)
+    module _ (behind : EntryRow) where
+      pub emitting_done : GivesEntry row None behind → PutsEntries s w first levels o₀ o
+      emitting_done h l k y fs i r st =
+          onward_done (field_bytes (type_bytes l)) (left_done levels i st (Onward (field_bytes (type_bytes l)) fs o₀ o) row behind (c.left l k y fs i r st) h)
 
-      pub emitting_again : PutsEntry s w place levels o o₁ → Emitting s w first levels o₀ behind o₁
-      emitting_again f = record {
+      pub emitting_again : {place : ℕ} {o₁ : Output} → GivesEntry row (Some place) behind → PutsEntry s w place levels o o₁ → Emitting s w first levels o₀ behind o₁
+      emitting_again {o₁ = o₁} h f = record {
         left = λ l k y fs i r st.
-            left_again l s (Onward (field_bytes (type_bytes l)) fs o₀ o) (c.left l k y fs i r st) e never i skip (Onward (field_bytes (type_bytes l)) fs o₀ o₁)
+            left_again levels i st (Onward (field_bytes (type_bytes l)) fs o₀ o) row behind (c.left l k y fs i r st) (Onward (field_bytes (type_bytes l)) fs o₀ o₁) h
             λ j b x xs v u o. onward_one (field_bytes (type_bytes l)) (f l j b x i v u) o;
       }
 
 -- the count, then the fields
-pub row_puts : {s w : Bytes} {place : ℕ} (levels : ℕ) {n : ℕ} {o o₁ o₂ : Output} → CountsEntries w place levels n → Puts (n % 256 ∷ n / 256 % 256 ∷ []) o o₁
-    → PutsEntries s w place levels o₁ o₂ → PutsRow s w place levels o o₂
-row_puts {s} levels c two f l k y fs i h st =
-    puts_counted_list (field_bytes (type_bytes l)) fs (c l s k y fs i h st) (fields_long l fs) two (f l k y fs i h st)
+pub row_puts : (s w : Bytes) (place levels : ℕ) {row : EntryRow} {n : ℕ} {o o₁ o₂ : Output} → Begins w place levels row → ((xs : List ℕ) × Drains GivesEntry row xs × (n ≡ length xs))
+    → Puts (n % 256 ∷ n / 256 % 256 ∷ []) o o₁ → PutsEntries s w place levels o₁ o₂ → PutsRow s w place levels o o₂
+row_puts s w place levels {row} i (xs, (u, (t, e, h)), c) two f l k y fs j p st =
+    let all = left_counted levels j st 0 (length fs) xs row t u (left_begin levels j st (λ left. 0 + length left ≡ length fs) row i p (omega arith)) e h in
+    puts_counted_list (field_bytes (type_bytes l)) fs (omega (arith, c, all)) (fields_long l fs) two (f l k y fs j p st)

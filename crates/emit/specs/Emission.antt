@@ -4,7 +4,7 @@ use Rattle.std.specs.Prelude.{ℕ, ◌+◌, ◌/◌, ◌%◌, ◌≤◌, ◌<◌
 use Rattle.model.specs.Numbers.{max_levels}
 use Rattle.model.specs.Bytes.{Bytes, Metadata, Every, flag}
 use Rattle.model.specs.Tree.{Head, DataType, Field}
-use Rattle.model.specs.Sheet.{dict_id_bytes, dict_id_stands, each, with_count, part, stands, text_bytes, pair_bytes, head_bytes, field_bytes, type_bytes, column_bytes}
+use Rattle.model.specs.Sheet.{dict_id_bytes, dict_id_stands, with_count, part, stands, text_bytes, pair_bytes, head_bytes, field_bytes, type_bytes, column_bytes}
 use Rattle.model.specs.WellFormed.{LaidOut, Whole}
 use Rattle.buffer.specs.declared.Output.{Output}
 use Rattle.buffer.specs.Puts.{Puts}
@@ -79,20 +79,11 @@ PutsEntry s w place levels o o' =
 
 -- Rows of entries
 
--- whether there are any, and how many
-
+-- whether there are any
 abbrev pub HasEntries : (w : Bytes) (place : ℕ) (r : Bool) → Type 0
 HasEntries w place r = (l : ℕ) (s : Bytes) (k : ℕ) (y : Bytes) (fs : List (Field l)) → SpellRow l s k y fs → Stands w place y → r ≡ stands fs
 
-abbrev pub CountsEntries : (w : Bytes) (place levels r : ℕ) → Type 0
-CountsEntries w place levels r = (l : ℕ) (s : Bytes) (k : ℕ) (y : Bytes) (fs : List (Field l)) → l ≤ levels → SpellRow l s k y fs → Stands w place y → r ≡ length fs
-
--- their fields, without their count and with it
-
-abbrev pub PutsEntries : (s w : Bytes) (place levels : ℕ) (o o' : Output) → Type 0
-PutsEntries s w place levels o o' =
-    (l k : ℕ) (y : Bytes) (fs : List (Field l)) → l ≤ levels → SpellRow l s k y fs → Stands w place y → Puts (each (field_bytes (type_bytes l)) fs) o o'
-
+-- their count and their fields
 abbrev pub PutsRow : (s w : Bytes) (place levels : ℕ) (o o' : Output) → Type 0
 PutsRow s w place levels o o' =
     (l k : ℕ) (y : Bytes) (fs : List (Field l)) → l ≤ levels → SpellRow l s k y fs → Stands w place y → Puts (with_count (field_bytes (type_bytes l)) fs) o o'

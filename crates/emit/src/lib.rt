@@ -12,12 +12,12 @@ ghost use Rattle.buffer.specs.Puts.{Puts, Fills};
 ghost use Rattle.walk.specs.Stands.{Stands, Skips, member_bytes};
 ghost use Rattle.table.specs.Table.{SpellSchema};
 ghost use Rattle.emit.specs.Survivor.{IsFrontType, IsSurvivor};
-ghost use Rattle.emit.specs.Emission.{HasPlaces, PutsPlaces, PutsMetadata, PutsUnion, PutsRawHead, PutsDictId, PutsName, PutsHead, PutsSurvivor, PutsType, PutsEntry, HasEntries, CountsEntries, PutsEntries, PutsRow, PutsColumns};
+ghost use Rattle.emit.specs.Emission.{HasPlaces, PutsPlaces, PutsMetadata, PutsUnion, PutsRawHead, PutsDictId, PutsName, PutsHead, PutsSurvivor, PutsType, PutsEntry, HasEntries, PutsRow, PutsColumns};
 
 use buffer::Output;
 use layout::NULL;
 use sheet::Cursor;
-use table::{Kind, PlaceRow};
+use table::{EntryRow, Kind, PlaceRow};
 
 // Copies the byte at a place of the train.
 fn put_copy(s: &[u8], at: usize, out: &mut Output<'_>)
@@ -98,26 +98,6 @@ fn has_entries(w: &[u8], at: usize) -> bool
     ensures { HasEntries w.now at result }
 {
     walk::byte(w, at) != table::NO_ENTRY
-}
-
-// How many entries a row has.
-fn count_entries(w: &[u8], at: usize, levels: usize) -> usize
-    ensures { CountsEntries w.now at levels result }
-{
-    let mut place = at;
-    let mut count = 0;
-    while place < w.len() {
-        if walk::byte(w, place) == table::NO_ENTRY {
-            return count;
-        }
-        let next = table::skip_entry(w, place, levels);
-        if next <= place {
-            return count;
-        }
-        place = next;
-        count += 1;
-    }
-    count
 }
 
 // What is written: the schema that a table spells by places of a train.
@@ -219,34 +199,18 @@ impl Spelling<'_> {
         }
     }
 
-    // The count of a row's entries, and their fields.
+    // The count of a row's entries, and their fields. What passes the longest answer is not gone over.
     #[cycle(putting)]
     fn put_row(&self, at: usize, levels: usize, out: &mut Output<'_>)
         ensures { PutsRow self.now.train.now self.now.table.now at levels out.old out.new }
     {
-        out.put_two(count_entries(self.table, at, levels));
-        self.put_entries(at, levels, out);
-    }
-
-    // The fields of a row. What passes the longest answer is not gone over.
-    #[cycle(putting)]
-    fn put_entries(&self, at: usize, levels: usize, out: &mut Output<'_>)
-        ensures { PutsEntries self.now.train.now self.now.table.now at levels out.old out.new }
-    {
-        let mut place = at;
-        while place < self.table.len() {
-            if walk::byte(self.table, place) == table::NO_ENTRY {
-                return;
-            }
+        let row = EntryRow::new(self.table, at, levels);
+        out.put_two(row.count());
+        for place in row {
             if buffer::MAX_ANSWER_BYTES < out.written {
                 return;
             }
             self.put_entry(place, levels, out);
-            let behind = table::skip_entry(self.table, place, levels);
-            if behind <= place {
-                return;
-            }
-            place = behind;
         }
     }
 

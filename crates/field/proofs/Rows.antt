@@ -22,13 +22,13 @@ use Rattle.walk.specs.Stands.{Stands}
 use Rattle.walk.proofs.Descents.{head_stands}
 use Rattle.table.specs.Held.{Held}
 use Rattle.table.specs.Table.{no_entry, more, SpellField, SpellRow}
+use Rattle.table.specs.Entries.{SkipsEntries}
 use Rattle.table.specs.Look.{Cut, FoundAt, NotFound, Finds}
 use Rattle.table.specs.Says.{Merged, Says}
 use Rattle.table.specs.Becomes.{Incoming}
 use Rattle.table.specs.Opened.{NewEntry}
 use Rattle.std.proofs.Common.{Result, Ok, Err}
 use Rattle.table.proofs.Held.{held_length, held_stands, held_as}
-use Rattle.table.proofs.Entries.{SkipsEntries}
 use Rattle.table.proofs.Opening.{field_long}
 use Rattle.table.proofs.Look.{rows_append, rows_snoc, row_begin}
 use Rattle.table.proofs.Fits.{field_fits, rows_fit}

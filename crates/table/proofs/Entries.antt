@@ -2,7 +2,7 @@
 use Prim.Native.Nat.{ℕ, zero, suc, ◌+◌, ◌-◌, ◌/◌, ◌≤◌, ◌<◌}
 use native.Mathlib.Omega.{arith}
 use mathlib.Core.Path.{◌≡◌, refl, sym, ap, subst, ◌∙◌}
-use mathlib.Core.List.{List, [], ◌∷◌, ◌++◌, append_assoc}
+use mathlib.Core.List.{List, ◌∷◌, ◌++◌, append_assoc}
 use mathlib.Core.Bool.{Bool, false≢true}
 use lib.ListN.{length, get_or}
 use lib.Dec.{eqb}
@@ -10,11 +10,13 @@ use borrow.Author.Tests.{eq-eqb, eqb-true}
 use Rattle.model.specs.Bytes.{Bytes, Metadata, Every}
 use Rattle.model.specs.Tree.{FieldOver, DataType, Field}
 use Rattle.walk.specs.Stands.{Stands, Skips}
-use Rattle.walk.proofs.Standing.{first_stands, byte_stands, skip_ahead, skip_join, skip_when}
+use Rattle.walk.proofs.Standing.{byte_stands, skip_ahead, skip_join, skip_when}
 use Rattle.walk.proofs.Parts.{Ahead}
-use Rattle.table.specs.Table.{u24, no_place, no_entry, raw, open_struct, open_list, open_union, places_bytes, Rows, none, more, Refer, none_left, one_place, SpellMetadata, raw_pairs, pair_places, SpellFieldOver, spell_raw, spell_struct, spell_list, spell_union, SpellType, SpellField, SpellRow}
+use Rattle.table.specs.Table.{u24, no_place, no_entry, raw, open_struct, open_list, open_union, places_bytes, Refer, none_left, one_place, SpellMetadata, raw_pairs, pair_places, SpellFieldOver, spell_raw, spell_struct, spell_list, spell_union, SpellType, SpellRow}
+use Rattle.std.proofs.Common.{Option}
+use Rattle.table.specs.Entries.{SkipsEntries, NoEntry, StepsOver, GivesEntry}
+use Rattle.table.specs.declared.EntryRow.{EntryRow}
 use Rattle.table.proofs.Numbers.{length_u24}
-use Rattle.table.proofs.Marked.{joined, Left, Rest, rest_begin, rest_again, rest_done, rest_none}
 
 -- Rows of places
 
@@ -56,13 +58,10 @@ module _ {T : Type 0} {write : T → Bytes} {G : Bool → T → Type 0} {P : T �
 
 -- Types
 
--- what `skip_type`, `skip_entry` and `skip_row` ensure
+-- what `skip_type` and `skip_row` ensure
 
 abbrev pub SkipsTypes : Bytes → ℕ → ℕ → ℕ → Type 0
 SkipsTypes w place levels r = (l : ℕ) (s : Bytes) (first : DataType l) (k : ℕ) (y : Bytes) (t : DataType l) → l ≤ levels → SpellType l s first k y t → Skips w place y r
-
-abbrev pub SkipsEntries : Bytes → ℕ → ℕ → ℕ → Type 0
-SkipsEntries w place levels r = (l : ℕ) (s : Bytes) (k : ℕ) (y : Bytes) (f : Field l) → l ≤ levels → SpellField l s k y f → Skips w place y r
 
 abbrev pub SkipsRows : Bytes → ℕ → ℕ → ℕ → Type 0
 SkipsRows w place levels r = (l : ℕ) (s : Bytes) (k : ℕ) (y : Bytes) (fs : List (Field l)) → l ≤ levels → SpellRow l s k y fs → Skips w place y r
@@ -120,62 +119,19 @@ plain_entry {w} {place} levels h z i l s k y f j p =
     let next : place + 4 + 4 ≡ place + 8 = omega arith in
     entry_skips (head_skips refl (omega arith, λ n. refl) m) (λ o r v t q. types_raw levels (omega arith, λ n. sym next) z l s o r v t j q) p
 
--- Rows of entries
+-- Where no entry stands: at a row's end, past the end of the table, and where none is passed, since an entry is not empty
+module _ {w : Bytes} {place : ℕ} (levels : ℕ) where
+  pub none_at_end : get_or w place 0 ≡ no_entry → NoEntry w place levels
+  none_at_end h l s k y f i p st = omega (arith, h, p.small_flags, byte_stands (subst (Stands w place) p.bytes st))
 
--- the bytes of an entry of so many levels
-pub record IsEntry (levels : ℕ) (b : Bytes) : Type 0 where
-  pub level : ℕ
-  pub low : level ≤ levels
-  pub train : Bytes
-  pub room : ℕ
-  pub field : Field level
-  pub spelt : SpellField level train room b field
+  pub none_past : length w ≤ place → NoEntry w place levels
+  none_past h l s k y f i p st = omega (arith, h, st.inside, ap length p.bytes)
 
-rows_parts : {l : ℕ} (levels : ℕ) → l ≤ levels → (s : Bytes) {m : ℕ} {ys : Bytes} {fs : List (Field l)} → Rows (λ i z f. SpellField l s i z f) m ys fs
-    → (bs : List Bytes) × (joined bs ≡ ys) × Every (IsEntry levels) bs
-rows_parts levels h s none = ([], refl, tt)
-rows_parts {l} levels h s (more {k = k} {y = y} {x = x} p r) =
-    let (bs, e, g) = rows_parts levels h s r in
-    (y ∷ bs, ap (λ z. y ++ z) e, (record { level = l; low = h; train = s; room = k; field = x; spelt = p }, g))
+  pub none_passed : {r : ℕ} → SkipsEntries w place levels r → r ≤ place → NoEntry w place levels
+  none_passed g h l s k y f i p st = omega (arith, h, (g l s k y f i p).behind st, ap length p.bytes)
 
-abbrev pub EntriesRest : Bytes → ℕ → ℕ → ℕ → Type 0
-EntriesRest w levels first place = Rest (IsEntry levels) (no_entry ∷ []) w first place
-
-module _ {w : Bytes} (levels : ℕ) where
-  pub entries_begin : (first : ℕ) → EntriesRest w levels first first
-  entries_begin first = rest_begin (IsEntry levels) (no_entry ∷ []) w first
-
-  of_entries : {first r : ℕ} → ((bs : List Bytes) → Every (IsEntry levels) bs → Skips w first (joined bs ++ (no_entry ∷ [])) r) → SkipsRows w first levels r
-  of_entries {first} {r} f l s k y fs h p =
-      let (bs, e, g) = rows_parts levels h s p.row in
-      subst (λ y. Skips w first y r) (ap (λ z. z ++ (no_entry ∷ [])) e ∙ sym p.bytes) (f bs g)
-
-  -- an entry begins with its flags, which are no mark
-  entry_flags : {b : Bytes} (i : IsEntry levels b) (r : Bytes) {place : ℕ} → Stands w place (b ++ r) → get_or w place 0 ≡ i.spelt.flags
-  entry_flags i r {place} st = byte_stands (subst (λ z. Stands w place (z ++ r)) i.spelt.bytes st)
-
-  module _ {first place n : ℕ} (k : EntriesRest w levels first place) (e : n ≡ get_or w place 0) where
-    pub entries_again : {r : ℕ} → (n ≡ no_entry → ⊥) → SkipsEntries w place levels r → EntriesRest w levels first r
-    entries_again never f = rest_again (IsEntry levels) (no_entry ∷ []) w k (λ st. never (e ∙ byte_stands st)) λ b i. f i.level i.train i.room b i.field i.low i.spelt
-
-    pub entries_done : {r : ℕ} → n ≡ no_entry → Ahead w place 1 r → SkipsRows w first levels r
-    entries_done {r} h a =
-        of_entries (rest_done (IsEntry levels) (no_entry ∷ []) w k (λ b c i st. omega (arith, i.spelt.small_flags, h, e, entry_flags i c st)) (skip_ahead (no_entry ∷ []) refl a.1))
-
-    -- an entry is not empty
-    pub entries_stuck : {r q : ℕ} → (n ≡ no_entry → ⊥) → SkipsEntries w place levels q → q ≤ place → SkipsRows w first levels r
-    entries_stuck {r} {q} never f h =
-        of_entries λ bs g. record { behind = λ st. absurd (go (k.left bs g st)) }
-      where
-        go : {end : ℕ} → Left (IsEntry levels) (no_entry ∷ []) w place end → ⊥
-        go l = of l.parts l.good l.stands
-          where
-            of : (bs : List Bytes) → Every (IsEntry levels) bs → Stands w place (joined bs ++ (no_entry ∷ [])) → ⊥
-            of [] v st = never (e ∙ byte_stands st)
-            of (b ∷ bs) v st =
-                let i = v.0 in
-                let st2 = subst (Stands w place) (append_assoc b (joined bs) (no_entry ∷ [])) st in
-                omega (arith, h, (f i.level i.train i.room b i.field i.low i.spelt).behind (first_stands b (joined bs ++ (no_entry ∷ [])) st2), ap length i.spelt.bytes)
-
-  pub entries_none : {first place r : ℕ} → EntriesRest w levels first place → length w ≤ place → SkipsRows w first levels r
-  entries_none k h = of_entries (rest_none (IsEntry levels) (no_entry ∷ []) w k h (omega arith))
+-- what a row that is gone over gives, where its table and its levels are known
+pub steps_over : {w : Bytes} {levels : ℕ} (r t : EntryRow) (o : Option ℕ) → r.w.now ≡ w → r.levels ≡ levels → GivesEntry r o t
+    → (t.w.now ≡ w) × (t.levels ≡ levels) × StepsOver w r.at levels o t.at
+steps_over {levels = levels} r t o e i g =
+    (g.0 ∙ e, g.1 ∙ i, subst (λ v. StepsOver v r.at levels o t.at) e (subst (λ m. StepsOver r.w.now r.at m o t.at) i g.2))

@@ -3,7 +3,6 @@ pub mod Held
 pub mod Says
 pub mod Numbers
 pub mod OfKinds
-pub mod Marked
 pub mod Entries
 pub mod Look
 pub mod NewEntries

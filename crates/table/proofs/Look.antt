@@ -1,5 +1,5 @@
--- Looking up a name: one entry, the turns of the scan, and what was found.
-use Prim.Native.Nat.{ℕ, ◌+◌, ◌≤◌}
+-- A place between the entries of a row: passing over them, and looking up a name: one entry, the turns of the scan, and what was found.
+use Prim.Native.Nat.{ℕ, ◌+◌, ◌≤◌, ◌<◌}
 use native.Mathlib.Omega.{arith}
 use mathlib.Core.Path.{◌≡◌, refl, sym, ap, subst, ◌∙◌}
 use mathlib.Core.List.{List, [], ◌∷◌, ◌++◌, append_assoc, append-nil}
@@ -11,39 +11,34 @@ use Rattle.model.specs.Sheet.{part, text_bytes, head_bytes}
 use Rattle.model.proofs.Lists.{every_append}
 use Rattle.walk.specs.Stands.{Stands, Skips}
 use Rattle.walk.proofs.Standing.{first_stands, second_stands, byte_stands, stands_behind, skip_ahead}
-use Rattle.walk.proofs.Parts.{Ahead}
 use Rattle.walk.proofs.Descents.{head_stands}
 use Rattle.table.specs.Table.{three, no_entry, Rows, none, more, SpellField, SpellRow}
-use Rattle.table.specs.Look.{Cut, FoundAt, Finds}
-use Rattle.std.proofs.Common.{Result, Ok, Err}
+use Rattle.table.specs.Entries.{SkipsEntries, NoEntry, StepsOver, GivesEntry}
+use Rattle.table.specs.declared.EntryRow.{EntryRow}
+use Rattle.table.specs.Look.{NamesEntry, Cut, FoundAt, Finds}
+use denote.Ref.{Bor}
+use denote.Param.Members.{Mut}
+use Rattle.std.proofs.Common.{Option, Some, None, Result, Ok, Err}
+use Rattle.std.specs.Fn.{Called, CalledAt}
+use Rattle.std.specs.Option.{IfSome, ok_or}
+use Rattle.std.specs.List.{FoldsTo}
+use Rattle.std.specs.Iterator.{Yields, FindsItem}
 use Rattle.table.proofs.Numbers.{three_stands}
-use Rattle.table.proofs.Entries.{SkipsEntries}
+use Rattle.table.proofs.Entries.{SkipsRows, steps_over}
 
 -- what `has_name` of a field of the train ensures
 abbrev HasName : Bytes → ℕ → Bytes → Bool → Type 0
 HasName s a name r = (h : Head) (n : Bytes) → Stands s a (head_bytes h) → name ≡ part text_bytes n → r ≡ same_bytes h.name n
-
--- what `is_named` ensures
-abbrev pub Named : Bytes → Bytes → ℕ → Bytes → Bool → Type 0
-Named s w place name r =
-    ((l k : ℕ) (y : Bytes) (f : Field l) (n : Bytes) → SpellField l s k y f → Stands w place y → name ≡ part text_bytes n → r ≡ same_bytes f.head.name n)
-    × (get_or w place 0 ≡ no_entry → r ≡ false)
 
 module _ {s w : Bytes} {place : ℕ} where
   -- an entry begins with its flags
   flags_stand : (l : ℕ) {k : ℕ} {y : Bytes} {f : Field l} (e : SpellField l s k y f) → Stands w place y → get_or w place 0 ≡ e.flags
   flags_stand l e st = byte_stands (subst (Stands w place) e.bytes st)
 
-  module _ {name : Bytes} {b : ℕ} (i : b ≡ get_or w place 0) where
-    pub named_entry : {m t : ℕ} {r : Bool} → (b ≡ no_entry → ⊥) → Ahead w place 1 m → t ≡ three w m → HasName s t name r → Named s w place name r
-    named_entry {m} {t} {r} never a j h = (go, λ z. absurd (never (i ∙ z)))
-      where
-        go : (l k : ℕ) (y : Bytes) (f : Field l) (n : Bytes) → SpellField l s k y f → Stands w place y → name ≡ part text_bytes n → r ≡ same_bytes f.head.name n
-        go l k y f n e st u =
-            let st2 = stands_behind (skip_ahead (e.flags ∷ []) refl a.1) (subst (Stands w place) e.bytes st) in
-            let first : t ≡ e.first = j ∙ three_stands e.first _ (omega (arith, e.small)) st2 in
-            h e.own.head n (subst (λ p. Stands s p (head_bytes e.own.head)) (sym first) (head_stands l e.own e.stands)) u
-            ∙ ap (λ z. same_bytes z n) e.name
+  pub named_entry : {name : Bytes} {t : ℕ} {r : Bool} → t ≡ three w (place + 1) → HasName s t name r → NamesEntry s w place name r
+  named_entry {t = t} i h l k y f n e st u =
+      let first : t ≡ e.first = i ∙ three_stands e.first _ (omega (arith, e.small)) (stands_behind (skip_ahead (e.flags ∷ []) refl λ z. refl) (subst (Stands w place) e.bytes st)) in
+      h e.own.head n (subst (λ p. Stands s p (head_bytes e.own.head)) (sym first) (head_stands l e.own e.stands)) u ∙ ap (λ z. same_bytes z n) e.name
 
 -- Rows
 
@@ -56,7 +51,7 @@ rows_append {P = P} {m = m} {z = z} {ys = ys} (more {k = i} {m = j} {y = a} {ys 
     let e : i + (j + m) ≡ i + j + m = omega arith in
     subst (λ n. Rows P n ((a ++ b) ++ z) (x ∷ (xs ++ ys))) e (subst (λ c. Rows P (i + (j + m)) c (x ∷ (xs ++ ys))) (sym (append_assoc a b z)) (more p (rows_append q r)))
 
-rows_none : {A : Type 0} {P : ℕ → Bytes → A → Type 0} {k : ℕ} {y : Bytes} {xs : List A} → Rows P k y xs → xs ≡ [] → length y ≡ 0
+rows_none : {A : Type 0} {P : ℕ → Bytes → A → Type 0} {k : ℕ} {y : Bytes} {xs : List A} → Rows P k y xs → xs ≡ [] → y ≡ []
 rows_none none e = refl
 rows_none (more p r) e = absurd (let z : ◌≡◌ {A = ℕ} 0 1 = cc in omega arith)
 
@@ -75,7 +70,7 @@ module _ {l : ℕ} {s w : Bytes} {row k : ℕ} {y : Bytes} {fs : List (Field l)}
   after_stands = subst (λ p. Stands w p (c.after_bytes ++ (no_entry ∷ []))) (sym c.stands) (second_stands c.before_bytes (c.after_bytes ++ (no_entry ∷ [])) (subst (Stands w row) c.bytes st))
 
 -- the entry at such a place, if it is not the end
-module _ {l : ℕ} {s w : Bytes} {row k : ℕ} {y : Bytes} {fs : List (Field l)} {place : ℕ} (name : Bytes) (c : Cut l s row k y fs place) (st : Stands w row y) where
+module _ {l : ℕ} {s w : Bytes} {row k : ℕ} {y : Bytes} {fs : List (Field l)} {place : ℕ} (c : Cut l s row k y fs place) (st : Stands w row y) where
   -- the next one
   pub record Next : Type 0 where
     pub this : Field l
@@ -113,7 +108,7 @@ module _ {l : ℕ} {s w : Bytes} {row k : ℕ} {y : Bytes} {fs : List (Field l)}
 
   module _ (n : Next) where
     -- it is the one
-    pub found_here : same_bytes n.this.head.name name ≡ true → FoundAt l s row k y fs name place
+    pub found_here : {name : Bytes} → same_bytes n.this.head.name name ≡ true → FoundAt l s row k y fs name place
     found_here h = record {
       before = c.before;
       this = n.this;
@@ -152,32 +147,17 @@ module _ {l : ℕ} {s w : Bytes} {row k : ℕ} {y : Bytes} {fs : List (Field l)}
       room = omega (arith, c.room, n.room);
     }
 
-  -- at the end none is left
-  pub end_here : get_or w place 0 ≡ no_entry → c.after ≡ []
-  end_here h = go c.after_room c.after_bytes c.after refl refl c.row_after
+  -- where none stands none is left
+  pub end_here : {levels : ℕ} → l ≤ levels → NoEntry w place levels → c.after ≡ []
+  end_here i never = go c.after_room c.after_bytes c.after refl refl c.row_after
     where
       go : (m : ℕ) (ys : Bytes) (gs : List (Field l)) → c.after_bytes ≡ ys → c.after ≡ gs → Rows (λ i z f. SpellField l s i z f) m ys gs → c.after ≡ []
       go m ys gs e₂ e₃ none = e₃
-      go m ys gs e₂ e₃ (more {y = z} {ys = zs} p r) =
-          absurd (omega (
-            arith,
-            p.small_flags,
-            h,
-            flags_stand l p
-                (first_stands z (zs ++ (no_entry ∷ [])) (subst (Stands w place) (append_assoc z zs (no_entry ∷ [])) (subst (λ v. Stands w place (v ++ (no_entry ∷ []))) e₂ (after_stands c st)))),
-          ))
+      go m ys gs e₂ e₃ (more {k = k} {y = z} {ys = zs} {x = f} p r) =
+          absurd (never l s k z f i p
+          (first_stands z (zs ++ (no_entry ∷ [])) (subst (Stands w place) (append_assoc z zs (no_entry ∷ [])) (subst (λ v. Stands w place (v ++ (no_entry ∷ []))) e₂ (after_stands c st)))))
 
--- The scan
-
--- a place between entries, none before it having the name
-pub record Passed (l : ℕ) (s : Bytes) (row k : ℕ) (y : Bytes) (fs : List (Field l)) (name : Bytes) (place : ℕ) : Type 0 where
-  pub cut : Cut l s row k y fs place
-  pub others : Every (λ f. same_bytes f.head.name name ≡ false) cut.before
-
-pub record Scan (s w : Bytes) (row : ℕ) (name : Bytes) (levels place : ℕ) : Type 0 where
-  pub passed : (l k : ℕ) (y : Bytes) (fs : List (Field l)) (n : Bytes) → l ≤ levels → SpellRow l s k y fs → Stands w row y → name ≡ part text_bytes n
-      → Passed l s row k y fs n place
-
+-- the row's front
 abbrev pub row_begin : {l : ℕ} {s : Bytes} {row k : ℕ} {y : Bytes} {fs : List (Field l)} → SpellRow l s k y fs → Cut l s row k y fs row
 row_begin {l} {s} {row} {k} {y} {fs} p = record {
   before = [];
@@ -194,6 +174,51 @@ row_begin {l} {s} {row} {k} {y} {fs} p = record {
   room = omega (arith, p.room);
 }
 
+-- at the end: none is left, the end stands there, and the row ends behind it
+pub cut_ends : {l levels : ℕ} {s w : Bytes} {row k : ℕ} {y : Bytes} {fs : List (Field l)} {place : ℕ} (c : Cut l s row k y fs place) → Stands w row y → l ≤ levels → NoEntry w place levels
+    → (c.after ≡ []) × (get_or w place 0 ≡ no_entry) × (place + 1 ≡ row + length y)
+cut_ends {w = w} {place = place} c st i never =
+    let z = end_here c st i never in
+    let bytes = rows_none c.row_after z in (
+      z,
+      byte_stands (subst (λ b. Stands w place (b ++ (no_entry ∷ []))) bytes (after_stands c st)),
+      omega (arith, c.stands, ap length c.bytes, length-append c.before_bytes (c.after_bytes ++ (no_entry ∷ [])), ap (λ b. length (b ++ (no_entry ∷ []))) bytes),
+    )
+
+-- A row that is passed over
+
+-- a place between the entries of each row that stands from `first` on
+pub record Skipping (w : Bytes) (first levels place : ℕ) : Type 0 where
+  cut : (l : ℕ) (s : Bytes) (k : ℕ) (y : Bytes) (fs : List (Field l)) → l ≤ levels → SpellRow l s k y fs → Stands w first y → Cut l s first k y fs place
+
+pub skipping_begin : {w : Bytes} (first levels : ℕ) → Skipping w first levels first
+skipping_begin first levels = record { cut = λ l s k y fs i p st. row_begin p }
+
+module _ {w : Bytes} {first : ℕ} (levels : ℕ) {place : ℕ} (k : Skipping w first levels place) where
+  pub skipping_again : {n r : ℕ} → n ≡ get_or w place 0 → (n ≡ no_entry → ⊥) → SkipsEntries w place levels r → Skipping w first levels r
+  skipping_again e never g = record {
+    cut = λ l s j y fs i p st.
+        let d = k.cut l s j y fs i p st in
+        let a = next_entry d st λ z. never (e ∙ z) in
+        cut_behind d st a (g l s a.this_room a.this_bytes a.this i a.spelt);
+  }
+
+  pub skipping_done : {r : ℕ} → NoEntry w place levels → (get_or w place 0 ≡ no_entry → place < length w → r ≡ place + 1) → SkipsRows w first levels r
+  skipping_done never h l s j y fs i p = record {
+    behind = λ st. let (left, mark, end) = cut_ends (k.cut l s j y fs i p st) st i never in omega (arith, h mark (omega (arith, end, st.inside)), end);
+  }
+
+-- The scan
+
+-- a place between entries, none before it having the name
+pub record Passed (l : ℕ) (s : Bytes) (row k : ℕ) (y : Bytes) (fs : List (Field l)) (name : Bytes) (place : ℕ) : Type 0 where
+  pub cut : Cut l s row k y fs place
+  pub others : Every (λ f. same_bytes f.head.name name ≡ false) cut.before
+
+pub record Scan (s w : Bytes) (row : ℕ) (name : Bytes) (levels place : ℕ) : Type 0 where
+  pub passed : (l k : ℕ) (y : Bytes) (fs : List (Field l)) (n : Bytes) → l ≤ levels → SpellRow l s k y fs → Stands w row y → name ≡ part text_bytes n
+      → Passed l s row k y fs n place
+
 -- what `scan` ensures of a row
 abbrev pub FindsIn : Bytes → Bytes → ℕ → Bytes → ℕ → Result ℕ ℕ → Type 0
 FindsIn s w row name levels r =
@@ -203,71 +228,76 @@ module _ {s w : Bytes} (row : ℕ) (name : Bytes) (levels : ℕ) where
   pub scan_begin : Scan s w row name levels row
   scan_begin = record { passed = λ l k y fs n h p st u. record { cut = row_begin p; others = tt } }
 
-  module _ {place : ℕ} (c : Scan s w row name levels place) where
-    -- past the buffer's end no row ends
-    pub scan_out : length w ≤ place → FindsIn s w row name levels (Err place)
-    scan_out h l k y fs n i p st u =
-        let v = after_stands (c.passed l k y fs n i p st u).cut st in
-        absurd (omega (arith, v.inside, h, length-append (c.passed l k y fs n i p st u).cut.after_bytes (no_entry ∷ [])))
+  module _ {place next : ℕ} (c : Scan s w row name levels place) where
+    pub scan_absent : StepsOver w place levels None next → FindsIn s w row name levels (Err next)
+    scan_absent (e, never) l k y fs n i p st u =
+        let d = c.passed l k y fs n i p st u in
+        let (left, mark, end) = cut_ends d.cut st i never in
+        record {
+          others = subst (Every (λ f. same_bytes f.head.name n ≡ false)) (sym (d.cut.fields ∙ ap (λ z. d.cut.before ++ z) left ∙ append-nil d.cut.before)) d.others;
+          end = omega (arith, e, end);
+        }
 
-    module _ {byte : ℕ} (e : byte ≡ get_or w place 0) where
-      pub scan_absent : byte ≡ no_entry → FindsIn s w row name levels (Err place)
-      scan_absent h l k y fs n i p st u =
+    module _ {x : ℕ} (g : StepsOver w place levels (Some x) next) {b : Bool} (v : NamesEntry s w x name b) where
+      here : {l k : ℕ} {y : Bytes} {fs : List (Field l)} (d : Cut l s row k y fs place) (st : Stands w row y) → Next d st
+      here d st = next_entry d st g.1
+
+      verdict : {l k : ℕ} {y : Bytes} {fs : List (Field l)} (n : Bytes) (d : Cut l s row k y fs place) (st : Stands w row y) → name ≡ part text_bytes n
+          → b ≡ same_bytes (here d st).this.head.name n
+      verdict {l} n d st u =
+          let a = here d st in
+          subst (λ m. NamesEntry s w m name b) g.0 v l a.this_room a.this_bytes a.this n a.spelt (first_stands a.this_bytes _ a.stands) u
+
+      pub scan_found : b ≡ true → FindsIn s w row name levels (Ok x)
+      scan_found h l k y fs n i p st u =
           let d = c.passed l k y fs n i p st u in
-          let z = end_here n d.cut st (sym e ∙ h) in
-          record {
-            others = subst (Every (λ f. same_bytes f.head.name n ≡ false)) (sym (d.cut.fields ∙ ap (λ z. d.cut.before ++ z) z ∙ append-nil d.cut.before)) d.others;
-            end = at_end_lem d.cut z;
-          }
-        where
-          at_end_lem : (d : Cut l s row k y fs place) → d.after ≡ [] → place + 1 ≡ row + length y
-          at_end_lem d z =
-              omega (
-                arith,
-                d.stands,
-                ap length d.bytes,
-                length-append d.before_bytes (d.after_bytes ++ (no_entry ∷ [])),
-                length-append d.after_bytes (no_entry ∷ []),
-                rows_none d.row_after z,
-              )
+          subst (FoundAt l s row k y fs n) (sym g.0) (found_here d.cut st (here d.cut st) (sym (verdict n d.cut st u) ∙ h))
 
-      module _ (never : byte ≡ no_entry → ⊥) where
-        here : (l k : ℕ) (y : Bytes) (fs : List (Field l)) (n : Bytes) → l ≤ levels → (p : SpellRow l s k y fs) (st : Stands w row y) (u : name ≡ part text_bytes n)
-            → (d : Passed l s row k y fs n place) → Next n d.cut st
-        here l k y fs n i p st u d = next_entry n d.cut st λ z. never (e ∙ z)
-
-        -- an entry is not empty
-        pub scan_stuck : {m : ℕ} → SkipsEntries w place levels m → m ≤ place → FindsIn s w row name levels (Err place)
-        scan_stuck {m} f h l k y fs n i p st u =
+      pub scan_again : b ≡ false → Scan s w row name levels next
+      scan_again h = record {
+        passed = λ l k y fs n i p st u.
             let d = c.passed l k y fs n i p st u in
-            let x = here l k y fs n i p st u d in
-            absurd (omega (arith, h, (f l s x.this_room x.this_bytes x.this i x.spelt).behind (first_stands x.this_bytes _ x.stands), ap length x.spelt.bytes))
+            let a = here d.cut st in
+            record {
+              cut = cut_behind d.cut st a (g.4 l s a.this_room a.this_bytes a.this i a.spelt);
+              others = every_append (λ f. same_bytes f.head.name n ≡ false) d.cut.before (a.this ∷ []) d.others (sym (verdict n d.cut st u) ∙ h, tt);
+            };
+      }
 
-        module _ {b : Bool} (v : Named s w place name b) where
-          verdict : {l k : ℕ} {y : Bytes} {fs : List (Field l)} (n : Bytes) (d : Cut l s row k y fs place) (st : Stands w row y) (x : Next n d st) → name ≡ part text_bytes n
-              → b ≡ same_bytes x.this.head.name n
-          verdict {l} n d st x u = v.0 l x.this_room x.this_bytes x.this n x.spelt (first_stands x.this_bytes _ x.stands) u
+-- The entries that `find` goes over
 
-          pub scan_found : b ≡ true → FindsIn s w row name levels (Ok place)
-          scan_found h l k y fs n i p st u =
-              let d = c.passed l k y fs n i p st u in
-              let x = here l k y fs n i p st u d in
-              found_here n d.cut st x (sym (verdict n d.cut st x u) ∙ h)
+-- what is left of the row, none before it having the name
+abbrev Scanning : (s w : Bytes) (row : ℕ) (name : Bytes) (levels : ℕ) → EntryRow → Type 0
+Scanning s w row name levels r = (r.w.now ≡ w) × (r.levels ≡ levels) × Scan s w row name levels r.at
 
-          pub scan_again : {m : ℕ} → b ≡ false → SkipsEntries w place levels m → Scan s w row name levels m
-          scan_again {m} h f = record {
-            passed = λ l k y fs n i p st u.
-                let d = c.passed l k y fs n i p st u in
-                let x = here l k y fs n i p st u d in
-                record {
-                  cut = cut_behind n d.cut st x (f l s x.this_room x.this_bytes x.this i x.spelt);
-                  others = every_append (λ f. same_bytes f.head.name n ≡ false) d.cut.before (x.this ∷ []) d.others (sym (verdict n d.cut st x u) ∙ h, tt);
-                };
-          }
+module _ {s w : Bytes} (row : ℕ) (name : Bytes) (levels : ℕ) {F : Type 0} (g : Mut F (Bor ℕ × Unit {0}) Bool) (f : F)
+    (tells : (p : Bor ℕ) (b : Bool) (q : F) → Called g f (p, tt) b q → (q ≡ f) × NamesEntry s w p.now name b) where
+  tells_at : (x : ℕ) {p : F} {b : Bool} {q : F} → p ≡ f → CalledAt g p x b q → (q ≡ f) × NamesEntry s w x name b
+  tells_at x {b = b} {q = q} e k =
+      let (stays, v) = tells k.shown b q (subst (λ p. Called g p (k.shown, tt) b q) e k.called) in
+      (stays, subst (λ m. NamesEntry s w m name b) k.shows v)
+
+  passes : (xs : List ℕ) (r t : EntryRow) (p q : F) → p ≡ f → Scanning s w row name levels r → Yields GivesEntry r xs t → FoldsTo (λ p x q. CalledAt g p x false q) p xs q
+      → Scanning s w row name levels t × (q ≡ f)
+  passes [] r t p q i k e d = (subst (Scanning s w row name levels) e k, sym d ∙ i)
+  passes (x ∷ xs) r t p q i k (u, h, e) (j, called, d) =
+      let (stays, v) = tells_at x i called in
+      let (a, m, o) = steps_over r u (Some x) k.0 k.1 h in
+      passes xs u t j q stays (a, m, scan_again _ _ _ k.2 o v refl) e d
+
+  pub scan_finds : (r u : EntryRow) → (r.w.now ≡ w) × (r.at ≡ row) × (r.levels ≡ levels) → (o : Option ℕ) → FindsItem GivesEntry g r f o u → FindsIn s w row name levels (ok_or o u.at)
+  scan_finds r u i o (xs, q, (t, e, h), d, z) =
+      let (k, stays) = passes xs r t f q refl (i.0, i.2, subst (Scan s w row name levels) (sym i.1) (scan_begin _ _ _)) e d in
+      ends u.at k.2 o (steps_over t u o k.0 k.1 h).2 z stays
+    where
+      ends : {place : ℕ} (next : ℕ) → Scan s w row name levels place → (o : Option ℕ) → StepsOver w place levels o next → IfSome o (λ x. (h : F) × CalledAt g q x true h) → q ≡ f
+          → FindsIn s w row name levels (ok_or o next)
+      ends next k None h z stays = scan_absent _ _ _ k h
+      ends next k (Some x) h z stays = scan_found _ _ _ k h (tells_at x stays z.1).1 refl
 
 -- the entry at the hint
-pub hint_found : {s w : Bytes} {row hint : ℕ} {name : Bytes} {b : Bool} → b ≡ true → Named s w hint name b → {l k : ℕ} {y : Bytes} {fs : List (Field l)} (n : Bytes) → Stands w row y → name ≡ part text_bytes n
+pub hint_found : {s w : Bytes} {row hint : ℕ} {name : Bytes} {b : Bool} → b ≡ true → NamesEntry s w hint name b × (get_or w hint 0 ≡ no_entry → b ≡ false) → {l k : ℕ} {y : Bytes} {fs : List (Field l)} (n : Bytes) → Stands w row y → name ≡ part text_bytes n
     → Cut l s row k y fs hint → FoundAt l s row k y fs n hint
 hint_found e v {l} n st u d =
-    let x = next_entry n d st λ z. false≢true (sym (v.1 z) ∙ e) in
-    found_here n d st x (sym (sym e ∙ v.0 l x.this_room x.this_bytes x.this n x.spelt (first_stands x.this_bytes _ x.stands) u))
+    let x = next_entry d st λ z. false≢true (sym (v.1 z) ∙ e) in
+    found_here d st x (sym (sym e ∙ v.0 l x.this_room x.this_bytes x.this n x.spelt (first_stands x.this_bytes _ x.stands) u))

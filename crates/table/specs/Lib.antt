@@ -8,3 +8,4 @@ pub mod Opened
 pub mod Edits
 pub mod Pours
 pub mod Row
+pub mod Entries

@@ -1,8 +1,15 @@
 -- Looking up a name among the entries of a row.
-use Rattle.std.specs.Prelude.{ℕ, ◌+◌, ◌≤◌, ◌≡◌, List, [], ◌∷◌, ◌++◌, true, false, length, Result, Ok, Err}
+use Rattle.std.specs.Prelude.{ℕ, ◌+◌, ◌≤◌, ◌≡◌, List, [], ◌∷◌, ◌++◌, Bool, true, false, length, Result, Ok, Err}
 use Rattle.model.specs.Bytes.{Bytes, Every, same_bytes}
 use Rattle.model.specs.Tree.{Field}
+use Rattle.model.specs.Sheet.{part, text_bytes}
+use Rattle.walk.specs.Stands.{Stands}
 use Rattle.table.specs.Table.{no_entry, Rows, SpellField}
+
+-- whether the entry that stands at a place has a name
+abbrev pub NamesEntry : (s w : Bytes) (place : ℕ) (name : Bytes) (r : Bool) → Type 0
+NamesEntry s w place name r =
+    (l k : ℕ) (y : Bytes) (f : Field l) (n : Bytes) → SpellField l s k y f → Stands w place y → name ≡ part text_bytes n → r ≡ same_bytes f.head.name n
 
 -- a place between the entries of a row that stands from `row` on: some stand before it, the others from it on
 pub record Cut (l : ℕ) (s : Bytes) (row k : ℕ) (y : Bytes) (fs : List (Field l)) (place : ℕ) : Type 0 where

@@ -11,7 +11,7 @@ ghost use Rattle.buffer.specs.Buffer.{pasted};
 ghost use Rattle.walk.specs.Stands.{Stands, Skips};
 ghost use Rattle.table.specs.Held.{Held};
 ghost use Rattle.table.specs.Table.{three, kind_of, u24, no_place, no_entry, raw, open_struct, places_bytes, SpellField, SpellType, SpellRow};
-ghost use Rattle.table.specs.Look.{Cut, Finds};
+ghost use Rattle.table.specs.Look.{NamesEntry, Cut, Finds};
 ghost use Rattle.table.specs.Becomes.{Incoming};
 ghost use Rattle.table.specs.Opened.{NewEntry, OpensList};
 ghost use Rattle.table.specs.Edits.{InsertsPlace};
@@ -179,32 +179,84 @@ pub fn next_entry(w: &[u8], at: usize, levels: usize) -> usize
     at + 8
 }
 
-// Whether an entry stands at a place of the table and has a name, which is given as `name_of` gives one.
-fn is_named(s: &[u8], w: &[u8], at: usize, name: &[u8]) -> bool
-    ensures { ((l : ℕ) (k : ℕ) (y : Bytes) (f : Field l) (n : Bytes) → SpellField l s.now k y f → Stands w.now at y → name.now ≡ part text_bytes n → result ≡ same_bytes f.head.name n) × (get_or w.now at 0 ≡ no_entry → result ≡ false) }
+// What is left of a row of entries of at most so many levels, whose places it gives one after the other, up to the mark; and where that begins.
+// A row without a mark ends with the table.
+#[derive(Clone, Copy)]
+pub struct EntryRow<'a> {
+    w: &'a [u8],
+    pub at: usize,
+    levels: usize,
+}
+
+impl<'a> EntryRow<'a> {
+    // The row that begins at a place of the table.
+    pub fn new(w: &'a [u8], at: usize, levels: usize) -> Self
+        ensures { (result.w.now ≡ w.now) × (result.at ≡ at) × (result.levels ≡ levels) }
+    {
+        EntryRow { w, at, levels }
+    }
+}
+
+impl Iterator for EntryRow<'_> {
+    ghost use Rattle.std.specs.Prelude.{◌-◌, length};
+    ghost use Rattle.std.specs.Iterator.{at_most};
+    ghost use Rattle.table.specs.Entries.{GivesEntry};
+
+    type Item = usize;
+
+    ghost next_gives = { GivesEntry };
+
+    ghost remaining = { λ s. at_most (length s.w.now - s.at) };
+
+    // An entry is not empty: where none is passed, none stands.
+    fn next(&mut self) -> Option<usize> {
+        let place = self.at;
+        if self.w.len() <= place || walk::byte(self.w, place) == NO_ENTRY {
+            return None;
+        }
+        let behind = next_entry(self.w, place, self.levels);
+        if behind <= place {
+            return None;
+        }
+        self.at = behind;
+        Some(place)
+    }
+}
+
+// The number of three bytes behind the byte at a place: behind an entry's flags, the place of its first occurrence.
+#[tactic(auto, unfolding(crate::specs::Table::three))]
+fn first_at(w: &[u8], at: usize) -> usize
+    ensures { result ≡ three w.now (at + 1) }
 {
-    walk::byte(w, at) != NO_ENTRY && has_name(s, three(w, walk::ahead(w, at, 1)), name)
+    match w.get(at..) {
+        Some([_, behind @ ..]) => three(behind, 0),
+        _ => 0,
+    }
+}
+
+// Whether the entry that stands at a place of the table has a name, which is given as `name_of` gives one.
+fn has_entry_name(s: &[u8], w: &[u8], at: usize, name: &[u8]) -> bool
+    ensures { NamesEntry s.now w.now at name.now result }
+{
+    has_name(s, first_at(w, at), name)
+}
+
+// Whether an entry stands at a place of the table, which may be a row's end, and has a name.
+fn is_named(s: &[u8], w: &[u8], at: usize, name: &[u8]) -> bool
+    ensures { NamesEntry s.now w.now at name.now result × (get_or w.now at 0 ≡ no_entry → result ≡ false) }
+{
+    walk::byte(w, at) != NO_ENTRY && has_entry_name(s, w, at, name)
 }
 
 // The entry of a name, from a row's front on.
 fn scan(s: &[u8], w: &[u8], row: usize, name: &[u8], levels: usize) -> Result<usize, usize>
     ensures { (l k : ℕ) (y : Bytes) (fs : List (Field l)) (n : Bytes) → l ≤ levels → SpellRow l s.now k y fs → Stands w.now row y → name.now ≡ part text_bytes n → Finds l s.now row k y fs n result }
 {
-    let mut place = row;
-    while place < w.len() {
-        if walk::byte(w, place) == NO_ENTRY {
-            return Err(place);
-        }
-        if is_named(s, w, place, name) {
-            return Ok(place);
-        }
-        let next = next_entry(w, place, levels);
-        if next <= place {
-            return Err(place);
-        }
-        place = next;
-    }
-    Err(place)
+    let mut entries = EntryRow::new(w, row, levels);
+    let named = |place: &usize|
+        ensures { NamesEntry s.entry.now w.entry.now place.now name.entry.now result }
+    { has_entry_name(s, w, *place, name) };
+    entries.find(named).ok_or(entries.at)
 }
 
 // The look-up of the merge: `SchemaBuilder::try_merge` looks for the first field of a name; no two entries of a row have one, so any is the

@@ -2,29 +2,24 @@
 use Rattle.emit.proofs.Types.{type_raw, type_struct, type_list, type_union}
 use mathlib.Core.Path.{refl}
 use Rattle.table.proofs.OfKinds.{is_raw, is_struct, is_list, is_union}
-use Rattle.emit.proofs.Rows.{entry_puts, emitting_out, emitting_beyond, emitting_done, emitting_stuck, emitting_again, row_puts}
+use Rattle.emit.proofs.Rows.{entry_puts, emitting_begin, emitting_beyond, emitting_done, emitting_again, row_puts}
 use Rattle.emit.proofs.Spelling.+putting.Goals as goal
-
-pub put_entries-returns-then-byte-eq-NO_ENTRY : goal.put_entries-returns-then-byte-eq-NO_ENTRY
-put_entries-returns-then-byte-eq-NO_ENTRY t c = emitting_done _ c.loop-place.invariant c.byte.ensures.0 c.if-byte-eq-NO_ENTRY.true
-
-pub put_entries-returns-then-out-gt-MAX_ANSWER_BYTES : goal.put_entries-returns-then-out-gt-MAX_ANSWER_BYTES
-put_entries-returns-then-out-gt-MAX_ANSWER_BYTES t c = emitting_beyond _ c.loop-place.invariant c.if-out-gt-MAX_ANSWER_BYTES.true
-
-pub put_entries-returns-then-behind-place : goal.put_entries-returns-then-behind-place
-put_entries-returns-then-behind-place t c = emitting_stuck _ c.loop-place.invariant c.byte.ensures.0 c.if-byte-eq-NO_ENTRY.false c.skip_entry-behind.ensures c.if-behind-place.true
-
-pub put_entries-loop-place-preserved : goal.put_entries-loop-place-preserved
-put_entries-loop-place-preserved t c = emitting_again _ c.loop-place.invariant c.byte.ensures.0 c.if-byte-eq-NO_ENTRY.false c.skip_entry-behind.ensures c.put_entry.ensures
-
-pub put_entries-returns : goal.put_entries-returns
-put_entries-returns t c = emitting_out _ c.loop-place.invariant c.loop-place-test.false
 
 pub put_entry-returns : goal.put_entry-returns
 put_entry-returns t c = entry_puts _ c.put_head.ensures c.ahead.ensures c.three-first.ensures.0 c.skip_head.ensures c.skip_head-own.ensures c.put_type.ensures
 
+pub put_row-loop-place-init : goal.put_row-loop-place-init
+put_row-loop-place-init t c = (tt, tt, emitting_begin _ _ _ _ _ (rw c.into_iter-place-iterator.ensures.into_iter_gives c.new-row.ensures))
+
+pub put_row-loop-place-preserved : goal.put_row-loop-place-preserved
+put_row-loop-place-preserved t c = (tt, tt, emitting_again _ _ _ _ _ c.loop-place.invariant.2 c.next.new.self c.in-Some.ensures.steps c.put_entry.ensures)
+
+pub put_row-returns-then-out-gt-MAX_ANSWER_BYTES : goal.put_row-returns-then-out-gt-MAX_ANSWER_BYTES
+put_row-returns-then-out-gt-MAX_ANSWER_BYTES t c =
+    row_puts _ _ _ _ c.new-row.ensures c.count.ensures.ran c.put_two.ensures (emitting_beyond _ _ _ _ _ c.loop-place.invariant.2 c.if-out-gt-MAX_ANSWER_BYTES.true)
+
 pub put_row-returns : goal.put_row-returns
-put_row-returns t c = row_puts _ c.count_entries.ensures c.put_two.ensures c.put_entries.ensures
+put_row-returns t c = row_puts _ _ _ _ c.new-row.ensures c.count.ensures.ran c.put_two.ensures (emitting_done _ _ _ _ _ c.loop-place.invariant.2 c.next.new.self c.in-None.ensures.steps)
 
 pub put_type-returns-in-Raw : goal.put_type-returns-in-Raw
 put_type-returns-in-Raw t c = type_raw _ refl c.ahead.ensures c.three-x.ensures.0 (is_raw c.kind_at.ensures c.in-Raw.is) c.put_raw.ensures
