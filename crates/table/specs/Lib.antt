@@ -6,5 +6,6 @@ pub mod Says
 pub mod Becomes
 pub mod Opened
 pub mod Edits
+pub mod Edited
 pub mod Pours
 pub mod Row
