@@ -17,10 +17,9 @@ use Rattle.model.specs.Equal.{same_child, same_type}
 use Rattle.model.proofs.Whole.{leaf_empty, type_whole}
 use Rattle.buffer.specs.declared.refusal.Number.{Number}
 use Rattle.walk.specs.Stands.{Stands}
-use Rattle.walk.proofs.Parts.{Ahead}
 use Rattle.walk.proofs.Descents.{code_stands}
 use Rattle.table.specs.Held.{Held}
-use Rattle.table.specs.Table.{raw, u24, three, RawAt, spell_raw, spell_struct, spell_list, spell_union}
+use Rattle.table.specs.Table.{raw, u24, RawAt, spell_raw, spell_struct, spell_list, spell_union}
 use Rattle.table.specs.Becomes.{IncomingType, Coded}
 use Rattle.std.proofs.Common.{Ok, Err}
 use Rattle.table.proofs.Held.{held_stands}

@@ -10,7 +10,7 @@ use Rattle.model.specs.Bytes.{Bytes, flag}
 use Rattle.model.specs.Tree.{DataType, Field}
 use Rattle.model.specs.Sheet.{field_bytes, type_bytes}
 use Rattle.model.specs.Merge.{is_null}
-use Rattle.walk.specs.Stands.{Stands, Skips}
+use Rattle.walk.specs.Stands.{Stands}
 use Rattle.walk.proofs.Standing.{first_stands, second_stands}
 use Rattle.model.proofs.MapBits.{flag_one, is_one}
 use Rattle.walk.proofs.Descents.{code_stands}

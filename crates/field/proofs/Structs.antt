@@ -22,7 +22,7 @@ use Rattle.walk.proofs.Standing.{byte_stands, stands_behind, skip_ahead}
 use Rattle.walk.proofs.Parts.{Ahead, two_at}
 use Rattle.walk.proofs.Descents.{code_stands, count_stands, elements_stand}
 use Rattle.table.specs.Held.{Held}
-use Rattle.table.specs.Table.{raw, open_struct, no_entry, u24, three, none, SpellRow, SpellType, spell_raw, spell_struct, spell_list, spell_union}
+use Rattle.table.specs.Table.{raw, open_struct, no_entry, u24, none, SpellRow, SpellType, spell_raw, spell_struct, spell_list, spell_union}
 use Rattle.table.specs.Says.{Merged, Says}
 use Rattle.table.specs.Becomes.{IncomingFields, Coded}
 use Rattle.std.proofs.Common.{Ok, Err}

@@ -158,12 +158,7 @@ fn merge_struct(
 
 // A raw struct is opened and its own children poured; an open one has them already.
 #[cycle(merging)]
-fn pour_own(
-    table: &mut Table<'_>,
-    at: usize,
-    levels: usize,
-    parked: bool,
-) -> Result<(), Number>
+fn pour_own(table: &mut Table<'_>, at: usize, levels: usize, parked: bool) -> Result<(), Number>
     ensures { Merges (OpensStruct parked levels at) table.old table.new result }
 {
     if table.kind_at(at) == Kind::OpenStruct {

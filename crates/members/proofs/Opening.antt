@@ -15,7 +15,7 @@ use Rattle.walk.proofs.Parts.{Ahead}
 use Rattle.walk.proofs.Passed.{Passed, passed_begin, passed_again, passed_done}
 use Rattle.walk.proofs.Descents.{code_stands}
 use Rattle.table.specs.Held.{Held}
-use Rattle.table.specs.Table.{no_place, raw, open_union, u24, three, places_bytes, Refer, none_left, one_place, RawAt, spell_raw, spell_struct, spell_list, spell_union}
+use Rattle.table.specs.Table.{no_place, raw, open_union, u24, places_bytes, Refer, none_left, one_place, RawAt, spell_raw, spell_struct, spell_list, spell_union}
 use Rattle.table.specs.Look.{NamesPlace}
 use Rattle.table.specs.Edits.{SetsByte, InsertsPlace}
 use Rattle.table.proofs.Held.{held_length, held_stands, held_as}

@@ -71,10 +71,10 @@ module _ {levels : ℕ} {s w w₁ w₂ : Bytes} {used place t end row n first : 
   pub union_stop : {c : Number} → r ≡ Err c → MergesUnion levels place t s w used w₂ r
   unfolding ◌>>=◌
   union_stop {c} e =
-    λ l f u h i inc x y z k b held hx coded room.
-        let p = poured l f u h i inc x y z k b held hx coded room in
-        subst (λ t. Says (SpellType (suc l) s f) (k + 4 * length (type_bytes (suc l) u)) x z w₂ t (merge_union l b u)) (sym e)
-        (from_children l b u (answered l p e))
+      λ l f u h i inc x y z k b held hx coded room.
+      let p = poured l f u h i inc x y z k b held hx coded room in
+      subst (λ t. Says (SpellType (suc l) s f) (k + 4 * length (type_bytes (suc l) u)) x z w₂ t (merge_union l b u)) (sym e)
+      (from_children l b u (answered l p e))
 
   module _ {next : ℕ} (e : r ≡ Ok next) {d : Bool} (tells : TellsIds s w₂ row d) where
     -- the verdict on their ids is the union's
@@ -89,27 +89,27 @@ module _ {levels : ℕ} {s w w₁ w₂ : Bytes} {used place t end row n first : 
     pub union_done : d ≡ true → MergesUnion levels place t s w used w₂ (Ok next)
     unfolding need
     union_done g =
-      λ l f u h i inc x y z k b held hx coded room.
-          let p = poured l f u h i inc x y z k b held hx coded room in
-          let o = answered l p e in
-          record {
-            value = with_children b o.value;
-            spelt = open_union ∷ (u24 p.opened.place ++ o.spelt);
-            room = 4 + o.room;
-            is = by_ids l b u p.inner o ∙ ap (λ d. need d type_id_clash (with_children b o.value)) g;
-            spells = spell_union p.opened.place o.room o.spelt refl p.opened.small p.opened.code p.code p.opened.params o.spells.places o.spells.whole (omega arith);
-            fits = omega (arith, o.fits, p.opened.room, p.long);
-            held = held_as o.held (simp append_assoc);
-          }
+        λ l f u h i inc x y z k b held hx coded room.
+        let p = poured l f u h i inc x y z k b held hx coded room in
+        let o = answered l p e in
+        record {
+          value = with_children b o.value;
+          spelt = open_union ∷ (u24 p.opened.place ++ o.spelt);
+          room = 4 + o.room;
+          is = by_ids l b u p.inner o ∙ ap (λ d. need d type_id_clash (with_children b o.value)) g;
+          spells = spell_union p.opened.place o.room o.spelt refl p.opened.small p.opened.code p.code p.opened.params o.spells.places o.spells.whole (omega arith);
+          fits = omega (arith, o.fits, p.opened.room, p.long);
+          held = held_as o.held (simp append_assoc);
+        }
 
     -- an id is there twice
     pub union_clash : d ≡ false → MergesUnion levels place t s w used w₂ (Err Number.TypeIdClash)
     unfolding need
     union_clash g =
-      λ l f u h i inc x y z k b held hx coded room.
-          let p = poured l f u h i inc x y z k b held hx coded room in
-          let o = answered l p e in
-          by_ids l b u p.inner o ∙ ap (λ d. need d type_id_clash (with_children b o.value)) g
+        λ l f u h i inc x y z k b held hx coded room.
+        let p = poured l f u h i inc x y z k b held hx coded room in
+        let o = answered l p e in
+        by_ids l b u p.inner o ∙ ap (λ d. need d type_id_clash (with_children b o.value)) g
 
 -- where both are unions, this is the merge of two types of one code
 pub union_arm : (parked : Bool) (l : ℕ) (b u : DataType (suc l)) → b.code ≡ Union → merge_same_code parked (merge_type parked l) (is_null l) (same_type l) b u ≡ merge_union l b u

@@ -44,7 +44,7 @@ fn find_member(table: &Table<'_>, row: usize, q: usize, levels: usize) -> Match
     ensures { FindsMember levels table.now.train.now table.now.w.now row q result }
 {
     let train = table.train;
-    let mut children = PlaceRow::new(table.w, row);
+    let mut children = table.places(row);
     match children.find(|there| same_member(train, q, *there, levels)) {
         Some(there) => by_id(train, there, q),
         None => Match::Missing(children.at),
@@ -52,12 +52,7 @@ fn find_member(table: &Table<'_>, row: usize, q: usize, levels: usize) -> Match
 }
 
 // "each newcomer is matched to the first equal child so far", which must have its id; one that is equal to none goes behind them all.
-pub fn merge_member(
-    table: &mut Table<'_>,
-    at: usize,
-    q: usize,
-    levels: usize,
-) -> Result<(), Number>
+pub fn merge_member(table: &mut Table<'_>, at: usize, q: usize, levels: usize) -> Result<(), Number>
     ensures { Merges (MergesMember levels at q) table.old table.new result }
 {
     match find_member(table, at, q, levels) {
@@ -108,7 +103,7 @@ pub fn ids_differ(table: &Table<'_>, row: usize) -> bool
     ensures { TellsIds table.now.train.now table.now.w.now row result }
 {
     let train = table.train;
-    let mut behind = PlaceRow::new(table.w, row);
+    let mut behind = table.places(row);
     while let Some(there) = behind.next() {
         if has_id(train, behind, walk::byte(train, there)) {
             return false;
@@ -161,12 +156,7 @@ fn open_union(table: &mut Table<'_>, at: usize, levels: usize)
 }
 
 // The arm of `Field::try_merge` for two unions: `UnionFields::try_merge`, the children of the second into those of the first.
-pub fn merge_union(
-    table: &mut Table<'_>,
-    at: usize,
-    t: usize,
-    levels: usize,
-) -> Result<(), Number>
+pub fn merge_union(table: &mut Table<'_>, at: usize, t: usize, levels: usize) -> Result<(), Number>
     ensures { Merges (MergesUnion levels at t) table.old table.new result }
 {
     let children = find_children(table.train, t);

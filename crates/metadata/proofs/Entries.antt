@@ -12,10 +12,9 @@ use Rattle.model.specs.Tree.{Head, Field}
 use Rattle.model.specs.Sheet.{part, with_count, pair_bytes, head_bytes}
 use Rattle.model.proofs.SameBytes.{metadata_same_eq}
 use Rattle.walk.specs.Stands.{Stands}
-use Rattle.walk.proofs.Standing.{byte_stands, stands_behind, skip_ahead}
-use Rattle.walk.proofs.Parts.{Ahead}
+use Rattle.walk.proofs.Standing.{byte_stands}
 use Rattle.walk.proofs.Descents.{head_stands}
-use Rattle.table.specs.Table.{u24, three, Places, SpellMetadata, raw_pairs, pair_places, SpellField}
+use Rattle.table.specs.Table.{u24, Places, SpellMetadata, raw_pairs, pair_places, SpellField}
 use Rattle.table.specs.Look.{NamesPlace}
 use Rattle.metadata.specs.Fields.{with_metadata}
 use Rattle.metadata.proofs.Heads.{SameMetadata}

@@ -19,7 +19,7 @@ use Rattle.buffer.specs.declared.refusal.Number.{Number}
 use Rattle.walk.specs.Stands.{Stands}
 use Rattle.walk.proofs.Parts.{Ahead}
 use Rattle.table.specs.Held.{Held}
-use Rattle.table.specs.Table.{u24, three, no_place, Places, pair_places, SpellField}
+use Rattle.table.specs.Table.{u24, no_place, Places, pair_places, SpellField}
 use Rattle.table.specs.Says as table
 use Rattle.std.proofs.Common.{Ok, Err}
 use Rattle.table.proofs.Numbers.{length_u24}

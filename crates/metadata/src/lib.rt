@@ -17,7 +17,7 @@ ghost use Rattle.metadata.specs.Merges.{PutsPair, MergesPairs, Marks, OpensMetad
 
 use buffer::Number;
 use datatype::metadata::{of_head, same_stretch, same_text};
-use table::{PlaceRow, Table};
+use table::Table;
 use walk::Elements;
 
 // Whether the bytes from one place to another are below those between two other places.
@@ -52,7 +52,8 @@ fn find_key(table: &Table<'_>, row: usize, q: usize) -> usize
 {
     let train = table.train;
     row + 3
-        * PlaceRow::new(table.w, row)
+        * table
+            .places(row)
             .take_while(|there| key_below(train, *there, q))
             .count()
 }

@@ -12,7 +12,7 @@ use Rattle.model.specs.Tree.{FieldOver, DataType, Field}
 use Rattle.walk.specs.Stands.{Stands, Skips}
 use Rattle.walk.proofs.Standing.{first_stands, byte_stands, skip_ahead, skip_join, skip_when}
 use Rattle.walk.proofs.Parts.{Ahead}
-use Rattle.table.specs.Table.{u24, no_place, no_entry, raw, open_struct, open_list, open_union, places_bytes, Rows, none, more, Refer, none_left, one_place, SpellMetadata, raw_pairs, pair_places, SpellFieldOver, spell_raw, spell_struct, spell_list, spell_union, SpellType, SpellField, SpellRow}
+use Rattle.table.specs.Table.{u24, no_place, no_entry, raw, open_struct, open_list, open_union, Rows, none, more, Refer, none_left, one_place, SpellMetadata, raw_pairs, pair_places, SpellFieldOver, spell_raw, spell_struct, spell_list, spell_union, SpellType, SpellField, SpellRow}
 pub use Rattle.table.specs.Look.{SkipsPlaces, SkipsEntries}
 use Rattle.table.proofs.Numbers.{length_u24}
 use Rattle.table.proofs.Marked.{joined, Left, Rest, rest_begin, rest_again, rest_done, rest_none}

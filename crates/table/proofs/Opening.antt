@@ -16,13 +16,12 @@ use Rattle.walk.proofs.Standing.{byte_stands, stands_behind, skip_ahead}
 use Rattle.walk.proofs.Parts.{Ahead}
 use Rattle.walk.proofs.Descents.{code_stands}
 use Rattle.table.specs.Held.{Held}
-use Rattle.table.specs.Table.{no_entry, raw, open_struct, open_list, u24, three, spell_raw, spell_struct, spell_list, spell_union}
+use Rattle.table.specs.Table.{no_entry, raw, open_struct, open_list, u24, spell_raw, spell_struct, spell_list, spell_union}
 use Rattle.table.proofs.Numbers.{length_u24}
 use Rattle.table.proofs.Held.{held_length, held_stands, held_as}
-use Rattle.table.specs.Becomes.{Incoming}
 use Rattle.table.specs.Look.{NamesPlace}
 use Rattle.table.specs.Edits.{SetsByte, Inserts}
-use Rattle.table.specs.Opened.{NewEntry, InsertsEntry, OpensList}
+use Rattle.table.specs.Opened.{InsertsEntry, OpensList}
 use Rattle.table.proofs.Types.{raw_there}
 
 pub byte_set : {w' x z : Bytes} {used n : ℕ} → n < 256 → Held w' used x (n % 256 ∷ []) z → Held w' used x (n ∷ []) z

@@ -2,7 +2,7 @@
 use Prim.Native.Nat.{ℕ, suc, ◌<◌}
 use native.Mathlib.Omega.{arith}
 use mathlib.Core.Path.{◌≡◌, refl, sym, ap, subst, ◌∙◌}
-use mathlib.Core.List.{[], ◌∷◌, ◌++◌, append-nil}
+use mathlib.Core.List.{[], ◌∷◌, append-nil}
 use lib.ListN.{get_or}
 use Rattle.model.specs.Bytes.{Bytes}
 use Rattle.model.specs.Tree.{DataType}

@@ -210,7 +210,7 @@ fn scan(s: &[u8], w: &[u8], row: usize, name: &[u8], levels: usize) -> Result<us
 #[derive(Drop)]
 pub struct Table<'a> {
     pub train: &'a [u8],
-    pub w: &'a mut [u8],
+    w: &'a mut [u8],
     used: usize,
 }
 
@@ -239,6 +239,13 @@ impl Table<'_> {
         three(self.w, at)
     }
 
+    // So many bytes on, at most to the buffer's end.
+    pub fn ahead(&self, at: usize, n: usize) -> usize
+        ensures { (result ≤ length self.now.w.now) × (at + n ≤ length self.now.w.now → result ≡ at + n) }
+    {
+        walk::ahead(self.w, at, n)
+    }
+
     // The kind of the type whose entry stands at a place.
     pub fn kind_at(&self, at: usize) -> Kind
         ensures { result ≡ kind_of (get_or self.now.w.now at 0) }
@@ -246,18 +253,25 @@ impl Table<'_> {
         kind_at(self.w, at)
     }
 
-    // The place of the train that an entry names, behind its flags, or that of a type, behind its kind.
+    // The place of the train that an entry names behind its flags, and a type's behind its kind.
     pub fn place_at(&self, at: usize) -> usize
         ensures { NamesPlace self.now.w.now at result }
     {
         self.three(self.ahead(at, 1))
     }
 
-    // So many bytes on, at most to the buffer's end.
-    pub fn ahead(&self, at: usize, n: usize) -> usize
-        ensures { (result ≤ length self.now.w.now) × (at + n ≤ length self.now.w.now → result ≡ at + n) }
+    // The code of the type whose entry stands at a place.
+    pub fn code_at(&self, at: usize) -> usize
+        ensures { (l : ℕ) (first : DataType (suc l)) (k : ℕ) (y : Bytes) (a : DataType (suc l)) → SpellType (suc l) self.now.train.now first k y a → Stands self.now.w.now at y → result ≡ a.code }
     {
-        walk::ahead(self.w, at, n)
+        walk::byte(self.train, self.place_at(at))
+    }
+
+    // The row of places that begins at a place of the table.
+    pub fn places(&self, at: usize) -> PlaceRow<'_>
+        ensures { (result.w.now ≡ self.now.w.now) × (result.at ≡ at) }
+    {
+        PlaceRow::new(self.w, at)
     }
 
     // A row of places and its end.
@@ -292,13 +306,6 @@ impl Table<'_> {
             return Ok(hint);
         }
         scan(self.train, self.w, row, name, levels)
-    }
-
-    // The code of the type whose entry stands at a place.
-    pub fn code_at(&self, at: usize) -> usize
-        ensures { (l : ℕ) (first : DataType (suc l)) (k : ℕ) (y : Bytes) (a : DataType (suc l)) → SpellType (suc l) self.now.train.now first k y a → Stands self.now.w.now at y → result ≡ a.code }
-    {
-        walk::byte(self.train, self.place_at(at))
     }
 
     // Writes bytes over as many that stand at a place.

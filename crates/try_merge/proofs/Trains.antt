@@ -2,9 +2,8 @@
 use Prim.Native.Nat.{ℕ, suc, ◌+◌, ◌*◌, ◌≤◌, ◌<◌}
 use native.Mathlib.Omega.{arith}
 use mathlib.Core.Path.{◌≡◌, refl, sym, ap, subst, ◌∙◌}
-use mathlib.Core.List.{List, [], ◌∷◌, ◌++◌, append-nil}
+use mathlib.Core.List.{List, [], ◌∷◌, ◌++◌}
 use lib.ListN.{length, take, length-append}
-use lib.Seq.{length-take-le}
 use Rattle.model.specs.Numbers.{max_sheet_bytes, max_sheets, work_bytes_per_sheet_byte}
 use Rattle.model.specs.Bytes.{Bytes, Every}
 use Rattle.model.specs.Tree.{Schema}

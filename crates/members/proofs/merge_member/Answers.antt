@@ -1,5 +1,4 @@
 -- `merge_member`: by the first equal child.
-use mathlib.Core.Path.{refl}
 use Rattle.table.proofs.Edited.{same_buffers}
 use Rattle.members.proofs.Merging.{merge_there, merge_clash, merge_new}
 use Rattle.members.proofs.merge_member.Goals as goal
