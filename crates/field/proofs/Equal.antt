@@ -17,14 +17,14 @@ use Rattle.model.specs.Equal.{same_child, same_type}
 use Rattle.model.proofs.Whole.{leaf_empty, type_whole}
 use Rattle.buffer.specs.declared.refusal.Number.{Number}
 use Rattle.walk.specs.Stands.{Stands}
-use Rattle.walk.proofs.Parts.{Ahead}
 use Rattle.walk.proofs.Descents.{code_stands}
 use Rattle.table.specs.Held.{Held}
-use Rattle.table.specs.Table.{raw, u24, three, RawAt, spell_raw, spell_struct, spell_list, spell_union}
+use Rattle.table.specs.Table.{raw, u24, RawAt, spell_raw, spell_struct, spell_list, spell_union}
 use Rattle.table.specs.Becomes.{IncomingType, Coded}
 use Rattle.std.proofs.Common.{Ok, Err}
 use Rattle.table.proofs.Held.{held_stands}
 use Rattle.table.proofs.Types.{raw_there}
+use Rattle.table.specs.Look.{NamesPlace}
 use Rattle.field.specs.Claims.{MergesEqual}
 
 -- plain equality of types of one code
@@ -45,7 +45,7 @@ as_raw l first d n₁ n₂ n₃ (spell_list x j ys y bs q g z p r v k, f) = absu
 as_raw l first d n₁ n₂ n₃ (spell_union x j ys bs q g z p r v k, f) = absurd (n₂ (sym f ∙ z))
 
 -- of plain types of one code
-pub types_plain : {s w : Bytes} {used place t levels c : ℕ} → c ≡ get_or s t 0 → layout c ≡ leaf → MergesEqual levels s w used place t w (Ok used)
+pub types_plain : {s w : Bytes} {used place t levels c : ℕ} → c ≡ get_or s t 0 → layout c ≡ leaf → MergesEqual levels place t s w used w (Ok used)
 unfolding need same
 types_plain {s} {t = t} {c = c} e h = record {
   says = λ l first u code low n₁ n₂ n₃ f i x y z k d held hx p room.
@@ -64,18 +64,18 @@ types_plain {s} {t = t} {c = c} e h = record {
       };
 }
 
-module _ {s w : Bytes} {used place m own t levels : ℕ} {b : Bool} (a : Ahead w place 1 m) (o : own ≡ three w m) (c : Compares s own t levels b) where
+module _ {s w : Bytes} {used place own t levels : ℕ} {b : Bool} (o : NamesPlace w place own) (c : Compares s own t levels b) where
   -- a raw type stands in the train at the place of its entry
   verdict : (l : ℕ) (first u d : DataType (suc l)) {code k : ℕ} {x y z : Bytes} → suc l ≤ levels → (code ≡ 32 → ⊥) → (code ≡ 33 → ⊥) → ((code ≡ List') ⊎ (code ≡ LargeList) → ⊥)
       → u.code ≡ code → IncomingType (suc l) s t u → Held w used x y z → place ≡ length x → Coded l s first code k y d
       → b ≡ (same_bytes d.params u.params && same (same_child (same_type l)) d.children u.children)
   verdict l first u d h n₁ n₂ n₃ e i held hx p =
       let (x, bs, r) = as_raw l first d n₁ n₂ n₃ p in
-      let there : own ≡ x = o ∙ raw_there a x r.small (subst (Stands w place) bs (held_stands held hx)) in
+      let there : own ≡ x = raw_there o x r.small (subst (Stands w place) bs (held_stands held hx)) in
       c (suc l) d u h (type_whole (suc l) r.ordered d r.well_formed) (type_whole (suc l) i.ordered u i.well_formed)
       (subst (λ p. Stands s p (type_bytes (suc l) d)) (sym there) r.stands) i.stands ∙ same_rest l d u (p.1 ∙ sym e)
 
-  pub types_equal : b ≡ true → MergesEqual levels s w used place t w (Ok used)
+  pub types_equal : b ≡ true → MergesEqual levels place t s w used w (Ok used)
   unfolding need
   types_equal e = record {
     says = λ l first u code h n₁ n₂ n₃ f i x y z k d held hx p room. record {
@@ -89,6 +89,6 @@ module _ {s w : Bytes} {used place m own t levels : ℕ} {b : Bool} (a : Ahead w
     };
   }
 
-  pub types_differ : b ≡ false → MergesEqual levels s w used place t w (Err Number.TypeClash)
+  pub types_differ : b ≡ false → MergesEqual levels place t s w used w (Err Number.TypeClash)
   unfolding need
   types_differ e = record { says = λ l first u code h n₁ n₂ n₃ f i x y z k d held hx p room. ap (λ v. need v type_clash d) (sym (verdict l first u d h n₁ n₂ n₃ f i held hx p) ∙ e) }

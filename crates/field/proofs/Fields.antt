@@ -26,7 +26,8 @@ use Rattle.table.proofs.Fits.{metadata_fits}
 use Rattle.metadata.specs.Fields.{with_metadata, merge_field_metadata}
 use Rattle.metadata.specs.Merges.{MergesMetadata}
 use Rattle.field.specs.Claims.{MergesField, MergesRest, MergesType, SetsFlags, OrdersAgree, merge_rest, both_flags}
-use Rattle.field.proofs.Flags.{SkipsHead, head_spelt, head_long, head_first, behind_head}
+use Rattle.table.specs.Look.{SkipsHead}
+use Rattle.field.proofs.Flags.{head_spelt, head_long, head_first, behind_head}
 
 -- Nullability and the type
 
@@ -65,7 +66,7 @@ sizes l g =
 -- in either mode
 module _ (parked : Bool) where
   pub rest_merged : {s w w₁ w₂ : Bytes} {used place q b t levels : ℕ} {r : Merged} → SkipsHead w place b → ((h : Head) → Skips s q (head_bytes h) t) → length w₁ ≡ length w
-      → SetsFlags s w used place b q t w₁ → MergesType parked levels s w₁ used b t w₂ r → MergesRest parked levels s w used place q w₂ r
+      → SetsFlags place b q t s w used w₁ → MergesType parked levels b t s w₁ used w₂ r → MergesRest parked levels place q s w used w₂ r
   unfolding ◌>>=◌
   rest_merged {s} {w} {w₁} {w₂} {used} {place} {q} {b} {t} {levels} {r} sk ht same set merge = record {
     says = λ l g low i x y z k f held hx e room.
@@ -108,10 +109,10 @@ module _ (parked : Bool) where
         → b ≡ orders_agree parked (is_null l) f g
     agree l g sq {k} {y = y} {f = f} held hx e = o.says l k y f g e (held_stands held hx) sq
 
-    pub field_ordered : {levels : ℕ} → b ≡ false → MergesField parked levels s w used place q w (Err Number.OrderedClash)
+    pub field_ordered : {levels : ℕ} → b ≡ false → MergesField parked levels place q s w used w (Err Number.OrderedClash)
     field_ordered n = record { says = λ l g low v x y z k f held hx e room. field_clash l f g (sym (agree l g v.stands held hx e) ∙ n) }
 
-    module _ (same : b ≡ true) {w₁ : Bytes} {got : Merged} (mm : MergesMetadata s w used place q w₁ got) where
+    module _ (same : b ≡ true) {w₁ : Bytes} {got : Merged} (size : length w₁ ≡ length w) (mm : MergesMetadata place q s w used w₁ got) where
       metadata_said : (l : ℕ) (g : Field l) → Incoming l s q g → (x y z : Bytes) (k : ℕ) (f : Field l) → Held w used x y z → place ≡ length x → SpellField l s k y f
           → length x + (k + 4 * length (field_bytes (type_bytes l) g)) + length z ≤ length w
           → Says (λ i v f. SpellField l s i v f) (k + 4 * length (part (with_count pair_bytes) g.head.metadata)) x z w₁ got (merge_field_metadata f g.head.metadata)
@@ -123,7 +124,7 @@ module _ (parked : Bool) where
       ordered_parts l g v {f = f} held hx e =
           field_parts l f g (sym (agree l g v.stands held hx e) ∙ same)
 
-      pub field_stopped : {levels : ℕ} {n : Number} → got ≡ Err n → MergesField parked levels s w used place q w₁ got
+      pub field_stopped : {levels : ℕ} {n : Number} → got ≡ Err n → MergesField parked levels place q s w used w₁ got
       unfolding ◌>>=◌
       field_stopped {n = n} c = record {
         says = λ l g low v x y z k f held hx e room.
@@ -132,12 +133,12 @@ module _ (parked : Bool) where
             (ordered_parts l g v held hx e ∙ ap (λ m. m >>= λ h. merge_rest parked l h g) t);
       }
 
-      pub field_merged : {levels kept : ℕ} {w₂ : Bytes} {r : Merged} → got ≡ Ok kept → MergesRest parked levels s w₁ kept place q w₂ r → MergesField parked levels s w used place q w₂ r
+      pub field_merged : {levels kept : ℕ} {w₂ : Bytes} {r : Merged} → got ≡ Ok kept → MergesRest parked levels place q s w₁ kept w₂ r → MergesField parked levels place q s w used w₂ r
       unfolding ◌>>=◌
       field_merged {kept = kept} {w₂} {r} c rest = record {
         says = λ l g low v x y z k f held hx e room.
             let t = subst (λ r. Says (λ i v f. SpellField l s i v f) (k + 4 * length (part (with_count pair_bytes) g.head.metadata)) x z w₁ r (merge_field_metadata f g.head.metadata)) c (metadata_said l g v x y z k f held hx e room) in
-            let u = rest.says l g low v x t.spelt z t.room t.value t.held hx t.spells (omega (arith, room, sizes l g, t.fits, mm.same_length)) in
+            let u = rest.says l g low v x t.spelt z t.room t.value t.held hx t.spells (omega (arith, room, sizes l g, t.fits, size)) in
             says_as (SpellField l s) (t.room + 4 * length (type_bytes l g.data_type)) (k + 4 * length (field_bytes (type_bytes l) g)) x z w₂ r (omega (arith, sizes l g, t.fits))
             (ordered_parts l g v held hx e ∙ ap (λ m. m >>= λ h. merge_rest parked l h g) t.is) u;
       }

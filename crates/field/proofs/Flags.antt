@@ -10,7 +10,7 @@ use Rattle.model.specs.Bytes.{Bytes, flag}
 use Rattle.model.specs.Tree.{DataType, Field}
 use Rattle.model.specs.Sheet.{field_bytes, type_bytes}
 use Rattle.model.specs.Merge.{is_null}
-use Rattle.walk.specs.Stands.{Stands, Skips}
+use Rattle.walk.specs.Stands.{Stands}
 use Rattle.walk.proofs.Standing.{first_stands, second_stands}
 use Rattle.model.proofs.MapBits.{flag_one, is_one}
 use Rattle.walk.proofs.Descents.{code_stands}
@@ -19,7 +19,8 @@ use Rattle.table.specs.Table.{u24, SpellField, SpellType, SpellMetadata}
 use Rattle.table.proofs.Numbers.{length_u24}
 use Rattle.table.proofs.Held.{held_stands, held_as}
 use Rattle.table.proofs.NewEntries.{nullable_bit, order_bit}
-use Rattle.table.proofs.Opening.{SetsByte}
+use Rattle.table.specs.Look.{SkipsHead}
+use Rattle.table.specs.Edits.{SetsByte}
 use Rattle.metadata.proofs.Entries.{flags_is}
 use Rattle.field.specs.Claims.{SetsFlags, with_flags, both_flags}
 
@@ -33,10 +34,6 @@ cond_flag true a b = refl
 cond_flag false a b = refl
 
 -- An entry's head, and its type behind it
-
--- what `skip_head` of the table ensures
-abbrev pub SkipsHead : Bytes → ℕ → ℕ → Type 0
-SkipsHead w place b = (l : ℕ) (s : Bytes) (k : ℕ) (y : Bytes) (f : Field l) (e : SpellField l s k y f) → Skips w place (e.flags ∷ (u24 e.first ++ e.metadata_bytes)) b
 
 module _ (l : ℕ) {s : Bytes} {k : ℕ} {y : Bytes} {f : Field l} (e : SpellField l s k y f) where
   abbrev pub head_spelt : Bytes
@@ -92,7 +89,7 @@ flags_said : {s w w' : Bytes} {used place b q t flags map mine theirs n : ℕ} �
     → ((l : ℕ) (first : DataType (suc l)) (k : ℕ) (y : Bytes) (a : DataType (suc l)) → SpellType (suc l) s first k y a → Stands w b y → mine ≡ a.code)
     → map ≡ get_or s q 0 → theirs ≡ get_or s t 0
     → n ≡ flags / 4 * 4 + cond (eqb mine 0) (map / 2 % 2) (flags / 2 % 2) * 2 + flag 1 (eqb (flags % 2) 1 || eqb (map % 2) 1 || eqb mine 0 || eqb theirs 0)
-    → SetsByte w used place n w' → (l : ℕ) (f g : Field l) (x y z : Bytes) (k : ℕ) (e : SpellField l s k y f) → Held w used x y z → place ≡ length x → b ≡ length x + (4 + length e.metadata_bytes)
+    → SetsByte place n w used w' → (l : ℕ) (f g : Field l) (x y z : Bytes) (k : ℕ) (e : SpellField l s k y f) → Held w used x y z → place ≡ length x → b ≡ length x + (4 + length e.metadata_bytes)
     → Stands s q (field_bytes (type_bytes l) g) → Stands s t (type_bytes l g.data_type)
     → (v : Bytes) × (e' : SpellField l s k v (both_flags l f g)) × Held w' used x v z × (length e'.metadata_bytes ≡ length e.metadata_bytes)
 unfolding is_null
@@ -122,5 +119,5 @@ pub flags_set : {s w w' : Bytes} {used place b q t flags map mine theirs n : ℕ
     → ((l : ℕ) (first : DataType (suc l)) (k : ℕ) (y : Bytes) (a : DataType (suc l)) → SpellType (suc l) s first k y a → Stands w b y → mine ≡ a.code)
     → map ≡ get_or s q 0 → theirs ≡ get_or s t 0
     → n ≡ flags / 4 * 4 + cond (eqb mine 0) (map / 2 % 2) (flags / 2 % 2) * 2 + flag 1 (eqb (flags % 2) 1 || eqb (map % 2) 1 || eqb mine 0 || eqb theirs 0)
-    → SetsByte w used place n w' → SetsFlags s w used place b q t w'
+    → SetsByte place n w used w' → SetsFlags place b q t s w used w'
 flags_set i c m h v set = record { says = flags_said i c m h v set }

@@ -38,8 +38,8 @@ module _ (parked : Bool) where
       go (done h) = refl
       go (clash n) = refl
 
-  pub list_merged : {s w w₁ w₂ : Bytes} {used place t inner opened child levels : ℕ} {r : Merged} → Ahead w place 4 inner → length w₁ ≡ length w → OpensList s w used place w₁ opened → Ahead s t 1 child
-      → MergesField parked levels s w₁ opened inner child w₂ r → MergesList parked levels s w used place t w₂ r
+  pub list_merged : {s w w₁ w₂ : Bytes} {used place t inner opened child levels : ℕ} {r : Merged} → Ahead w place 4 inner → length w₁ ≡ length w → OpensList place s w used w₁ opened → Ahead s t 1 child
+      → MergesField parked levels inner child s w₁ opened w₂ r → MergesList parked levels place t s w used w₂ r
   list_merged {s} {w} {w₁} {w₂} {used} {place} {t} {inner} {opened} {child} {levels} {r} a same opens b merge = record {
     says = λ l first u code low h c i x y z k d held hx p room.
         let o = opens l first code h i.small x y z k d held hx p (omega (arith, room)) in

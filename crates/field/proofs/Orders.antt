@@ -16,7 +16,8 @@ use Rattle.table.specs.Table.{SpellField, SpellType}
 use Rattle.table.proofs.NewEntries.{order_bit}
 use Rattle.metadata.proofs.Entries.{flags_is}
 use Rattle.field.specs.Claims.{HasNull, OrdersAgree}
-use Rattle.field.proofs.Flags.{SkipsHead, behind_head, type_there}
+use Rattle.table.specs.Look.{SkipsHead}
+use Rattle.field.proofs.Flags.{behind_head, type_there}
 
 -- what the code's test of the two bits says of the two fields
 module _ {s w : Bytes} {place q flags map : ℕ} {x y : Bool} (i : flags ≡ get_or w place 0) (j : map ≡ get_or s q 0) (m : x ≡ bit 1 flags) (n : y ≡ bit 1 map) where

@@ -15,9 +15,7 @@ use Rattle.model.specs.Merge.{◌>>=◌, done, clash, need, merge_metadata, orde
 use Rattle.model.proofs.ByteStrings.{same_bytes_eq, differ_same_bytes, same_bytes_differ}
 use Rattle.model.proofs.Gives.{Gives, value, of_done, any_gives, bind_gives}
 use Rattle.std.specs.Result.{IsErrAnd}
-use Rattle.std.proofs.lemmas.Result.{err_from_is_err_and}
 use Rattle.buffer.specs.declared.refusal.Number.{Number}
-use Rattle.field.specs.declared.Placed.{Placed}
 use Rattle.walk.specs.Stands.{Stands}
 use Rattle.walk.proofs.Descents.{head_stands}
 use Rattle.table.specs.Held.{Held}
@@ -26,9 +24,10 @@ use Rattle.table.specs.Entries.{SkipsEntries}
 use Rattle.table.specs.Look.{Cut, FoundAt, NotFound, Finds}
 use Rattle.table.specs.Says.{Merged, Says}
 use Rattle.table.specs.Becomes.{Incoming}
-use Rattle.table.specs.Opened.{NewEntry}
+use Rattle.table.specs.Opened.{InsertsEntry}
 use Rattle.std.proofs.Common.{Result, Ok, Err}
 use Rattle.table.proofs.Held.{held_length, held_stands, held_as}
+use Rattle.table.proofs.Edited.{handed}
 use Rattle.table.proofs.Opening.{field_long}
 use Rattle.table.proofs.Look.{rows_append, rows_snoc, row_begin}
 use Rattle.table.proofs.Fits.{field_fits, rows_fit}
@@ -95,8 +94,8 @@ module _ (parked : Bool) where
 
   module _ {s w : Bytes} {used row hint q levels : ℕ} {found : Result ℕ ℕ}
       (find : (l k : ℕ) (y : Bytes) (fs : List (Field l)) (g : Head) → l ≤ levels → SpellRow l s k y fs → Stands w row y → Stands s q (head_bytes g) → Cut l s row k y fs hint → Finds l s row k y fs g.name found) where
-    pub put_found : {place next : ℕ} {w₁ : Bytes} (r : Merged) → found ≡ Ok place → length w₁ ≡ length w → MergesField parked levels s w used place q w₁ r → Behind w₁ place levels next r
-        → Puts parked levels s w used row hint q w₁ r next
+    put_found : {place next : ℕ} {w₁ : Bytes} (r : Merged) → found ≡ Ok place → length w₁ ≡ length w → MergesField parked levels place q s w used w₁ r → Behind w₁ place levels next r
+        → Puts parked levels row hint q s w used w₁ r next
     unfolding ◌>>=◌
     put_found {place} {next} {w₁} r at_place same merge skips = record { says = go }
       where
@@ -165,17 +164,18 @@ module _ (parked : Bool) where
                 }
 
     -- a clash is handed up
-    pub put_clash : {place : ℕ} {w₁ : Bytes} {r : Merged} {c : Number} (a : Result Placed Number) → found ≡ Ok place → length w₁ ≡ length w → MergesField parked levels s w used place q w₁ r → r ≡ Err c
-        → IsErrAnd a (λ n. n ≡ c) → PutsField parked levels s w used row hint q w₁ a
-    put_clash {w₁ = w₁} {c = c} a at_place same merge e up =
-        let (n, i, j) = err_from_is_err_and a up in
-        subst (PutsField parked levels s w used row hint q w₁) (sym (i ∙ ap Err j)) (put_found (Err c) at_place same (subst (MergesField parked levels s w used _ q w₁) e merge) tt)
+    pub put_clash : {place : ℕ} {w₁ : Bytes} {r : Merged} {c : Number} (u : ℕ) (a : Result ℕ Number) → found ≡ Ok place → length w₁ ≡ length w → MergesField parked levels place q s w used w₁ r → r ≡ Err c
+        → IsErrAnd a (λ n. n ≡ c) → PutsField parked levels row hint q a s w used w₁ u
+    put_clash {w₁ = w₁} {c = c} u a at_place same merge e up =
+        subst (λ a. PutsField parked levels row hint q a s w used w₁ u) (sym (handed up)) (put_found (Err c) at_place same (subst (MergesField parked levels _ q s w used w₁) e merge) tt)
+
+    pub put_there : {place next u : ℕ} {w₁ : Bytes} {r : Merged} → found ≡ Ok place → length w₁ ≡ length w → MergesField parked levels place q s w used w₁ r → r ≡ Ok u → SkipsEntries w₁ place levels next
+        → Puts parked levels row hint q s w used w₁ (Ok u) next
+    put_there {u = u} {w₁} at_place same merge e skips = put_found (Ok u) at_place same (subst (MergesField parked levels _ q s w used w₁) e merge) skips
 
     -- Behind them all
 
-    pub put_absent : {end u : ℕ} {w₁ : Bytes} → found ≡ Err end → length w₁ ≡ length w
-        → ((l : ℕ) (g : Field l) (x z : Bytes) → Incoming l s q g → Held w used x [] z → end ≡ length x → used + 8 ≤ length w → NewEntry l s g w₁ u x z)
-        → Puts parked levels s w used row hint q w₁ (Ok u) row
+    pub put_absent : {end u : ℕ} {w₁ : Bytes} → found ≡ Err end → length w₁ ≡ length w → InsertsEntry end q s w used w₁ u → Puts parked levels row hint q s w used w₁ (Ok u) row
     put_absent {end} {u} {w₁} at_end_lem same insert = record { says = go }
       where
         go : (l : ℕ) (g : Field l) → l ≤ levels → Incoming l s q g → (x y z : Bytes) (k : ℕ) (fs : List (Field l)) → Held w used x y z → row ≡ length x → Hinted l s row hint k y fs

@@ -22,7 +22,7 @@ use Rattle.walk.proofs.Standing.{byte_stands, stands_behind, skip_ahead}
 use Rattle.walk.proofs.Parts.{Ahead, two_at}
 use Rattle.walk.proofs.Descents.{code_stands, count_stands, elements_stand}
 use Rattle.table.specs.Held.{Held}
-use Rattle.table.specs.Table.{raw, open_struct, no_entry, u24, three, none, SpellRow, SpellType, spell_raw, spell_struct, spell_list, spell_union}
+use Rattle.table.specs.Table.{raw, open_struct, no_entry, u24, none, SpellRow, SpellType, spell_raw, spell_struct, spell_list, spell_union}
 use Rattle.table.specs.Says.{Merged, Says}
 use Rattle.table.specs.Becomes.{IncomingFields, Coded}
 use Rattle.std.proofs.Common.{Ok, Err}
@@ -30,6 +30,8 @@ use Rattle.table.proofs.Numbers.{length_u24}
 use Rattle.table.proofs.Held.{held_length, held_stands, held_as}
 use Rattle.table.proofs.Says.{says_in}
 use Rattle.table.proofs.Types.{raw_there}
+use Rattle.table.specs.Look.{NamesPlace}
+use Rattle.table.specs.Opened.{OpensRow}
 use Rattle.field.specs.Claims.{OpenStruct, OpensStruct, MergesStruct, Pours, by_name}
 
 -- The children of a well-formed struct, as they stand in the train
@@ -73,11 +75,6 @@ unfolding ◌>>=◌
 done_same (done a) = refl
 done_same (clash n) = refl
 
--- what `open_struct` ensures
-abbrev OpensRow : (w : Bytes) (used place : ℕ) (w' : Bytes) → ℕ → Type 0
-OpensRow w used place w' r =
-    (x z : Bytes) (p : ℕ) → Held w used x (raw ∷ u24 p) z → place ≡ length x → used + 1 ≤ length w → Held w' r x (open_struct ∷ (u24 p ++ (no_entry ∷ []))) z
-
 -- an open struct around a row
 around : (l : ℕ) {s : Bytes} (place j : ℕ) (v : Bytes) (ks : List (Field l)) {k : ℕ} → place < 16777215 → get_or s place 0 ≡ Struct → SpellRow l s j v ks → 4 + j ≤ k → OpenStruct l s k ((open_struct ∷ u24 place) ++ (v ++ [])) ks
 around l place j v ks h c r room = record { place = place; row_bytes = v; row_room = j; bytes = ap (λ z. open_struct ∷ (u24 place ++ z)) (append-nil v); small = h; code = c; row = r; room = room }
@@ -92,7 +89,7 @@ struct_params l (spell_union x m ys b q g c p r v u, d) = absurd (omega (arith, 
 module _ (parked : Bool) where
   module _ {s w : Bytes} {used place : ℕ} where
     -- it is open: its own children are poured already
-    pub struct_open : {levels : ℕ} → get_or w place 0 ≡ open_struct → OpensStruct parked levels s w used place w (Ok used)
+    pub struct_open : {levels : ℕ} → get_or w place 0 ≡ open_struct → OpensStruct parked levels place s w used w (Ok used)
     struct_open h = record {
       says = λ l first low small x y z k a held hx p room. go l first x y z k a held hx p;
     }
@@ -117,9 +114,9 @@ module _ (parked : Bool) where
         go l first x y z k a held hx (spell_union i m ys b q g c p r v u, d) = absurd (omega (arith, c, d))
 
   module _ {s w : Bytes} {used place : ℕ} where
-    pub struct_poured : {w₁ w₂ : Bytes} {m own inner c count opened start levels : ℕ} {r : Merged} → (get_or w place 0 ≡ open_struct → ⊥) → Ahead w place 1 m → own ≡ three w m → Ahead w place 4 inner → Ahead s own 1 c
-        → count ≡ two_at s c → length w₁ ≡ length w → OpensRow w used place w₁ opened → Ahead s c 2 start → Pours parked levels s w₁ opened inner start count w₂ r → OpensStruct parked levels s w used place w₂ r
-    struct_poured {w₁} {w₂} {m} {own} {inner} {c} {count} {opened} {start} {levels} {r} never a o f b d same opens g pours = record {
+    pub struct_poured : {w₁ w₂ : Bytes} {own inner c count opened start levels : ℕ} {r : Merged} → (get_or w place 0 ≡ open_struct → ⊥) → NamesPlace w place own → Ahead w place 4 inner → Ahead s own 1 c
+        → count ≡ two_at s c → length w₁ ≡ length w → OpensRow place w used w₁ opened → Ahead s c 2 start → Pours parked levels inner start count s w₁ opened w₂ r → OpensStruct parked levels place s w used w₂ r
+    struct_poured {w₁} {w₂} {own} {inner} {c} {count} {opened} {start} {levels} {r} never o f b d same opens g pours = record {
       says = λ l first low small x y z k t held hx p room. go l first low small x y z k t held hx p room;
     }
       where
@@ -128,7 +125,7 @@ module _ (parked : Bool) where
         go l first low small x y z k t held hx (spell_raw j bs ra v, q) room =
             let cs = struct_children l ra.ordered t q ra.well_formed in
             let held₀ : Held w used x (raw ∷ u24 j) z = subst (λ y. Held w used x y z) bs held in
-            let there : own ≡ j = o ∙ raw_there a j ra.small (held_stands held₀ hx) in
+            let there : own ≡ j = raw_there o j ra.small (held_stands held₀ hx) in
             let st : Stands s own (type_bytes (suc l) t) = subst (λ p. Stands s p (type_bytes (suc l) t)) (sym there) ra.stands in
             let long = struct_long l t cs b d g st in
             let hl = held_length held₀ in
@@ -154,8 +151,8 @@ module _ (parked : Bool) where
 
   -- The two together
 
-  module _ {s w : Bytes} {used place t inner levels : ℕ} (a : Ahead w place 4 inner) {w₁ : Bytes} {got : Merged} (same : length w₁ ≡ length w) (own : OpensStruct parked levels s w used place w₁ got) where
-    pub struct_stopped : {n : Number} → got ≡ Err n → MergesStruct parked levels s w used place t w₁ got
+  module _ {s w : Bytes} {used place t inner levels : ℕ} (a : Ahead w place 4 inner) {w₁ : Bytes} {got : Merged} (same : length w₁ ≡ length w) (own : OpensStruct parked levels place s w used w₁ got) where
+    pub struct_stopped : {n : Number} → got ≡ Err n → MergesStruct parked levels place t s w used w₁ got
     unfolding ◌>>=◌
     struct_stopped {n} c = record {
       says = λ l first u low e i x y z k d held hx p room.
@@ -164,8 +161,8 @@ module _ (parked : Bool) where
           (ap (λ m. m >>= λ ks. done (with_children d ks)) (pour_append (by_name parked l) [] d.children u.children ∙ ap (λ m. m >>= λ b. pour (by_name parked l) b u.children) m));
     }
 
-    pub struct_merged : {mid c count start : ℕ} {w₂ : Bytes} {r : Merged} → got ≡ Ok mid → Ahead s t 1 c → count ≡ two_at s c → Ahead s c 2 start → Pours parked levels s w₁ mid inner start count w₂ r
-        → MergesStruct parked levels s w used place t w₂ r
+    pub struct_merged : {mid c count start : ℕ} {w₂ : Bytes} {r : Merged} → got ≡ Ok mid → Ahead s t 1 c → count ≡ two_at s c → Ahead s c 2 start → Pours parked levels inner start count s w₁ mid w₂ r
+        → MergesStruct parked levels place t s w used w₂ r
     unfolding ◌>>=◌
     struct_merged {mid} {c} {count} {start} {w₂} {r} g b d f pours = record {
       says = λ l first u low e i x y z k v held hx p room.

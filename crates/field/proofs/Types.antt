@@ -27,6 +27,7 @@ use Rattle.table.proofs.Numbers.{length_u24}
 use Rattle.table.proofs.Held.{held_stands}
 use Rattle.members.specs.Claims.{MergesUnion}
 use Rattle.members.proofs.Unions.{union_arm}
+use Rattle.table.specs.Edits.{TakesType}
 use Rattle.field.specs.Claims.{MergesType, MergesSameCode, MergesStruct, MergesList, MergesEqual, by_name}
 
 -- what `code_at` ensures
@@ -79,7 +80,7 @@ module _ (parked : Bool) where
       theirs_is : theirs ≡ u.code
       theirs_is = j ∙ code_stands l u i.stands
 
-    pub type_taken : {levels : ℕ} {w₁ : Bytes} → mine ≡ 0 → ((x y z : Bytes) → Held w used x y z → place ≡ length x → length y ≡ 4 → Held w₁ used x (raw ∷ u24 t) z) → MergesType parked levels s w used place t w₁ (Ok used)
+    pub type_taken : {levels : ℕ} {w₁ : Bytes} → mine ≡ 0 → TakesType place t w used w₁ → MergesType parked levels place t s w used w₁ (Ok used)
     type_taken {levels} {w₁} e f = record { says = go }
       where
         go : (l : ℕ) (first u : DataType l) → l ≤ levels → IncomingType l s t u → (x y z : Bytes) (k : ℕ) (a : DataType l) → Held w used x y z → place ≡ length x → SpellType l s first k y a
@@ -99,7 +100,7 @@ module _ (parked : Bool) where
             }
 
     module _ (m : mine ≡ 0 → ⊥) where
-      pub type_kept : {levels : ℕ} → theirs ≡ 0 → MergesType parked levels s w used place t w (Ok used)
+      pub type_kept : {levels : ℕ} → theirs ≡ 0 → MergesType parked levels place t s w used w (Ok used)
       type_kept {levels} e = record { says = go }
         where
           go : (l : ℕ) (first u : DataType l) → l ≤ levels → IncomingType l s t u → (x y z : Bytes) (k : ℕ) (a : DataType l) → Held w used x y z → place ≡ length x → SpellType l s first k y a
@@ -116,7 +117,7 @@ module _ (parked : Bool) where
           }
 
       module _ (n : theirs ≡ 0 → ⊥) where
-        pub type_clash_lem : {levels : ℕ} → (mine ≡ theirs → ⊥) → MergesType parked levels s w used place t w (Err Number.TypeClash)
+        pub type_clash_lem : {levels : ℕ} → (mine ≡ theirs → ⊥) → MergesType parked levels place t s w used w (Err Number.TypeClash)
         type_clash_lem {levels} d = record { says = go }
           where
             go : (l : ℕ) (first u : DataType l) → l ≤ levels → IncomingType l s t u → (x y z : Bytes) (k : ℕ) (a : DataType l) → Held w used x y z → place ≡ length x → SpellType l s first k y a
@@ -127,7 +128,7 @@ module _ (parked : Bool) where
                 let g = theirs_is l first u a i held hx p in
                 codes_differ l a u (λ e. m (f ∙ e)) (λ e. n (g ∙ e)) λ e. d (f ∙ e ∙ sym g)
 
-        pub type_same : {levels : ℕ} {w₁ : Bytes} {r : Merged} → mine ≡ theirs → MergesSameCode parked mine levels s w used place t w₁ r → MergesType parked levels s w used place t w₁ r
+        pub type_same : {levels : ℕ} {w₁ : Bytes} {r : Merged} → mine ≡ theirs → MergesSameCode parked mine levels place t s w used w₁ r → MergesType parked levels place t s w used w₁ r
         type_same {levels} {w₁} {r} d merge = record { says = go }
           where
             go : (l : ℕ) (first u : DataType l) → l ≤ levels → IncomingType l s t u → (x y z : Bytes) (k : ℕ) (a : DataType l) → Held w used x y z → place ≡ length x → SpellType l s first k y a
@@ -169,25 +170,25 @@ module _ (parked : Bool) where
     other_arm s n h = choose_false _ _ _ (ne_eqb a.code Struct s) ∙ choose_false _ _ _ (ne_eqb a.code Union n) ∙ choose_false _ _ _ h
 
   module _ {s w : Bytes} {used place t code levels : ℕ} where
-    pub no_level : {w₁ : Bytes} {r : Merged} → levels ≤ 0 → MergesSameCode parked code levels s w used place t w₁ r
+    pub no_level : {w₁ : Bytes} {r : Merged} → levels ≤ 0 → MergesSameCode parked code levels place t s w used w₁ r
     no_level h = record { says = λ l first u low e i x y z k a held hx p room. absurd (omega (arith, h, low)) }
 
     module _ {w₁ : Bytes} {r : Merged} where
-      pub same_struct : code ≡ Struct → MergesStruct parked (levels - 1) s w used place t w₁ r → MergesSameCode parked code levels s w used place t w₁ r
+      pub same_struct : code ≡ Struct → MergesStruct parked (levels - 1) place t s w used w₁ r → MergesSameCode parked code levels place t s w used w₁ r
       same_struct c m = record {
         says = λ l first u low e i x y z k a held hx p room.
             subst (λ v. Says (SpellType (suc l) s first) (k + 4 * length (type_bytes (suc l) u)) x z w₁ r v) (sym (struct_arm l a u (p.1 ∙ c)))
             (m.says l first u (omega (arith, low)) (e ∙ c) i x y z k a held hx (p.0, p.1 ∙ c) room);
       }
 
-      pub same_list : (code ≡ List') ⊎ (code ≡ LargeList) → MergesList parked (levels - 1) s w used place t w₁ r → MergesSameCode parked code levels s w used place t w₁ r
+      pub same_list : (code ≡ List') ⊎ (code ≡ LargeList) → MergesList parked (levels - 1) place t s w used w₁ r → MergesSameCode parked code levels place t s w used w₁ r
       same_list h m = record {
         says = λ l first u low e i x y z k a held hx p room.
             subst (λ v. Says (SpellType (suc l) s first) (k + 4 * length (type_bytes (suc l) u)) x z w₁ r v) (sym (list_arm l a u (subst (λ n. (n ≡ List') ⊎ (n ≡ LargeList)) (sym p.1) h)))
             (m.says l first u code (omega (arith, low)) h e i x y z k a held hx p room);
       }
 
-      pub same_other : (code ≡ Struct → ⊥) → (code ≡ Union → ⊥) → ((code ≡ List') ⊎ (code ≡ LargeList) → ⊥) → MergesEqual levels s w used place t w₁ r → MergesSameCode parked code levels s w used place t w₁ r
+      pub same_other : (code ≡ Struct → ⊥) → (code ≡ Union → ⊥) → ((code ≡ List') ⊎ (code ≡ LargeList) → ⊥) → MergesEqual levels place t s w used w₁ r → MergesSameCode parked code levels place t s w used w₁ r
       same_other n₁ n₂ n₃ m = record {
         says = λ l first u low e i x y z k a held hx p room.
             subst (λ v. Says (SpellType (suc l) s first) (k + 4 * length (type_bytes (suc l) u)) x z w₁ r v)
@@ -195,7 +196,7 @@ module _ (parked : Bool) where
             (m.says l first u code low n₁ n₂ n₃ e i x y z k a held hx p room);
       }
 
-    pub same_union : (w₁ : Bytes) (r : Merged) → code ≡ Union → MergesUnion (levels - 1) s w used place t w₁ r → MergesSameCode parked code levels s w used place t w₁ r
+    pub same_union : (w₁ : Bytes) (r : Merged) → code ≡ Union → MergesUnion (levels - 1) place t s w used w₁ r → MergesSameCode parked code levels place t s w used w₁ r
     same_union w₁ r c m = record {
       says = λ l first u low e i x y z k a held hx p room.
           subst (λ v. Says (SpellType (suc l) s first) (k + 4 * length (type_bytes (suc l) u)) x z w₁ r v) (sym (union_arm parked l a u (p.1 ∙ c)))

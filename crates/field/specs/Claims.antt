@@ -15,20 +15,19 @@ use Rattle.table.specs.Table.{no_place, u24, open_struct, SpellField, SpellType,
 use Rattle.table.specs.Look.{Cut}
 use Rattle.table.specs.Becomes.{Incoming, IncomingType, IncomingFields, Becomes, Coded}
 use Rattle.table.specs.Says.{Merged}
-use Rattle.field.specs.declared.Placed.{Placed}
 
 -- a field into the entry at a place
-pub record MergesField (parked : Bool) (levels : ℕ) (s w : Bytes) (used place q : ℕ) (w' : Bytes) (r : Merged) : Type 0 where
+pub record MergesField (parked : Bool) (levels place q : ℕ) (s w : Bytes) (used : ℕ) (w' : Bytes) (r : Merged) : Type 0 where
   pub says : (l : ℕ) (g : Field l) → l ≤ levels → Incoming l s q g
       → Becomes (SpellField l s) (SpellField l s) w used place (4 * length (field_bytes (type_bytes l) g)) w' r λ f. merge_field parked (merge_type parked l) (is_null l) f g
 
 -- a type into the one at a place, of a field whose first occurrence had the type `first`
-pub record MergesType (parked : Bool) (levels : ℕ) (s w : Bytes) (used place t : ℕ) (w' : Bytes) (r : Merged) : Type 0 where
+pub record MergesType (parked : Bool) (levels place t : ℕ) (s w : Bytes) (used : ℕ) (w' : Bytes) (r : Merged) : Type 0 where
   pub says : (l : ℕ) (first u : DataType l) → l ≤ levels → IncomingType l s t u
       → Becomes (SpellType l s first) (SpellType l s first) w used place (4 * length (type_bytes l u)) w' r λ a. merge_type parked l a u
 
 -- the same where both have the code, which is not that of Null
-pub record MergesSameCode (parked : Bool) (code levels : ℕ) (s w : Bytes) (used place t : ℕ) (w' : Bytes) (r : Merged) : Type 0 where
+pub record MergesSameCode (parked : Bool) (code levels place t : ℕ) (s w : Bytes) (used : ℕ) (w' : Bytes) (r : Merged) : Type 0 where
   pub says : (l : ℕ) (first u : DataType (suc l)) → suc l ≤ levels → u.code ≡ code → IncomingType (suc l) s t u
       → Becomes (Coded l s first code) (SpellType (suc l) s first) w used place (4 * length (type_bytes (suc l) u)) w' r
       λ a. merge_same_code parked (λ x y. merge_type parked l x y) (is_null l) (same_type l) a u
@@ -37,7 +36,7 @@ pub record MergesSameCode (parked : Bool) (code levels : ℕ) (s w : Bytes) (use
 abbrev pub by_name : Bool → (l : ℕ) → List (Field l) → Field l → model.Merged (List (Field l))
 by_name parked l = merge_by_name (merge_field parked (merge_type parked l) (is_null l))
 
-pub record Pours (parked : Bool) (levels : ℕ) (s w : Bytes) (used row q count : ℕ) (w' : Bytes) (r : Merged) : Type 0 where
+pub record Pours (parked : Bool) (levels row q count : ℕ) (s w : Bytes) (used : ℕ) (w' : Bytes) (r : Merged) : Type 0 where
   pub says : (l : ℕ) (gs : List (Field l)) → l ≤ levels → IncomingFields l s q count gs
       → Becomes (SpellRow l s) (SpellRow l s) w used row (4 * length (each (field_bytes (type_bytes l)) gs)) w' r λ fs. pour (by_name parked l) fs gs
 
@@ -46,14 +45,14 @@ abbrev pub Hinted : (l : ℕ) (s : Bytes) (row hint k : ℕ) (y : Bytes) (fs : L
 Hinted l s row hint k y fs = SpellRow l s k y fs × Cut l s row k y fs hint
 
 -- one field into a row: the same, and where to look first for the next one
-pub record Puts (parked : Bool) (levels : ℕ) (s w : Bytes) (used row hint q : ℕ) (w' : Bytes) (r : Merged) (next : ℕ) : Type 0 where
+pub record Puts (parked : Bool) (levels row hint q : ℕ) (s w : Bytes) (used : ℕ) (w' : Bytes) (r : Merged) (next : ℕ) : Type 0 where
   pub says : (l : ℕ) (g : Field l) → l ≤ levels → Incoming l s q g
       → Becomes (Hinted l s row hint) (Hinted l s row next) w used row (4 * length (field_bytes (type_bytes l) g)) w' r λ fs. by_name parked l fs g
 
--- of what it answers; at a clash there is no next one
-abbrev pub PutsField : (parked : Bool) (levels : ℕ) (s w : Bytes) (used row hint q : ℕ) (w' : Bytes) → Result Placed Number → Type 0
-PutsField parked levels s w used row hint q w' (Ok placed) = Puts parked levels s w used row hint q w' (Ok placed.used) placed.next
-PutsField parked levels s w used row hint q w' (Err c) = Puts parked levels s w used row hint q w' (Err c) row
+-- of what it answers, that place; at a clash there is no next one
+abbrev pub PutsField : (parked : Bool) (levels row hint q : ℕ) → Result ℕ Number → (s w : Bytes) (used : ℕ) (w' : Bytes) (used' : ℕ) → Type 0
+PutsField parked levels row hint q (Ok next) s w used w' used' = Puts parked levels row hint q s w used w' (Ok used') next
+PutsField parked levels row hint q (Err c) s w used w' used' = Puts parked levels row hint q s w used w' (Err c) row
 
 -- The parts of merging a field
 
@@ -71,7 +70,7 @@ both_flags l f g =
 abbrev pub merge_rest : Bool → (l : ℕ) → Field l → Field l → model.Merged (Field l)
 merge_rest parked l f g = merge_type parked l f.data_type g.data_type >>= λ t. done (with_data_type (both_flags l f g) t)
 
-pub record MergesRest (parked : Bool) (levels : ℕ) (s w : Bytes) (used place q : ℕ) (w' : Bytes) (r : Merged) : Type 0 where
+pub record MergesRest (parked : Bool) (levels place q : ℕ) (s w : Bytes) (used : ℕ) (w' : Bytes) (r : Merged) : Type 0 where
   pub says : (l : ℕ) (g : Field l) → l ≤ levels → Incoming l s q g
       → Becomes (SpellField l s) (SpellField l s) w used place (4 * length (type_bytes l g.data_type)) w' r λ f. merge_rest parked l f g
 
@@ -89,31 +88,31 @@ pub record OpenStruct (l : ℕ) (s : Bytes) (k : ℕ) (y : Bytes) (ks : List (Fi
   pub room : 4 + row_room ≤ k
 
 -- a struct is opened: its own children are poured by name
-pub record OpensStruct (parked : Bool) (levels : ℕ) (s w : Bytes) (used place : ℕ) (w' : Bytes) (r : Merged) : Type 0 where
+pub record OpensStruct (parked : Bool) (levels place : ℕ) (s w : Bytes) (used : ℕ) (w' : Bytes) (r : Merged) : Type 0 where
   pub says : (l : ℕ) (first : DataType (suc l)) → l ≤ levels → length s < no_place
       → Becomes (Coded l s first Struct) (OpenStruct l s) w used place 0 w' r λ a. pour (by_name parked l) [] a.children
 
 -- two structs: the first's children, then the other's
-pub record MergesStruct (parked : Bool) (levels : ℕ) (s w : Bytes) (used place t : ℕ) (w' : Bytes) (r : Merged) : Type 0 where
+pub record MergesStruct (parked : Bool) (levels place t : ℕ) (s w : Bytes) (used : ℕ) (w' : Bytes) (r : Merged) : Type 0 where
   pub says : (l : ℕ) (first u : DataType (suc l)) → l ≤ levels → u.code ≡ Struct → IncomingType (suc l) s t u
       → Becomes (Coded l s first Struct) (SpellType (suc l) s first) w used place (4 * length (type_bytes (suc l) u)) w' r
       λ a. pour (by_name parked l) [] (a.children ++ u.children) >>= λ ks. done (with_children a ks)
 
 -- two lists, or two large lists
-pub record MergesList (parked : Bool) (levels : ℕ) (s w : Bytes) (used place t : ℕ) (w' : Bytes) (r : Merged) : Type 0 where
+pub record MergesList (parked : Bool) (levels place t : ℕ) (s w : Bytes) (used : ℕ) (w' : Bytes) (r : Merged) : Type 0 where
   pub says : (l : ℕ) (first u : DataType (suc l)) (code : ℕ) → l ≤ levels → (code ≡ List') ⊎ (code ≡ LargeList) → u.code ≡ code → IncomingType (suc l) s t u
       → Becomes (Coded l s first code) (SpellType (suc l) s first) w used place (4 * length (type_bytes (suc l) u)) w' r
       λ a. merge_each parked (merge_type parked l) (is_null l) a.children u.children >>= λ ks. done (with_children a ks)
 
 -- types of a code that nothing is merged inside
-pub record MergesEqual (levels : ℕ) (s w : Bytes) (used place t : ℕ) (w' : Bytes) (r : Merged) : Type 0 where
+pub record MergesEqual (levels place t : ℕ) (s w : Bytes) (used : ℕ) (w' : Bytes) (r : Merged) : Type 0 where
   pub says : (l : ℕ) (first u : DataType (suc l)) (code : ℕ) → suc l ≤ levels → (code ≡ Struct → ⊥) → (code ≡ Union → ⊥) → ((code ≡ List') ⊎ (code ≡ LargeList) → ⊥)
       → u.code ≡ code → IncomingType (suc l) s t u
       → Becomes (Coded l s first code) (SpellType (suc l) s first) w used place (4 * length (type_bytes (suc l) u)) w' r
       λ a. need (same_bytes a.params u.params && same (same_child (same_type l)) a.children u.children) type_clash a
 
 -- the flags of an entry whose type stands at b are set for an incoming field, whose type stands at t
-pub record SetsFlags (s w : Bytes) (used place b q t : ℕ) (w' : Bytes) : Type 0 where
+pub record SetsFlags (place b q t : ℕ) (s w : Bytes) (used : ℕ) (w' : Bytes) : Type 0 where
   pub says : (l : ℕ) (f g : Field l) (x y z : Bytes) (k : ℕ) (e : SpellField l s k y f) → Held w used x y z → place ≡ length x → b ≡ length x + (4 + length e.metadata_bytes)
       → Stands s q (field_bytes (type_bytes l) g) → Stands s t (type_bytes l g.data_type)
       → (v : Bytes) × (e' : SpellField l s k v (both_flags l f g)) × Held w' used x v z × (length e'.metadata_bytes ≡ length e.metadata_bytes)

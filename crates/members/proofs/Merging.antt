@@ -68,7 +68,7 @@ module _ {levels : ℕ} {s w : Bytes} {used row q : ℕ} {m : Match} (find : Fin
       subst (Outcome (same_type l) f ks row) (sym (find l f i st v k y ks p.places p.whole (held_stands h hx)) ∙ e) (outcome (same_type l) f ks row)
 
   -- the equal child has the id
-  pub merge_there : m ≡ SameId → MergesMember levels s w used row q w (Ok used)
+  pub merge_there : m ≡ SameId → MergesMember levels row q s w used w (Ok used)
   merge_there e l i = record {
     says = λ x y z k ks f h hx p st v small room. record {
       value = ks;
@@ -82,11 +82,11 @@ module _ {levels : ℕ} {s w : Bytes} {used row q : ℕ} {m : Match} (find : Fin
   }
 
   -- it has another
-  pub merge_clash : m ≡ OtherId → MergesMember levels s w used row q w (Err Number.EqualChildClash)
+  pub merge_clash : m ≡ OtherId → MergesMember levels row q s w used w (Err Number.EqualChildClash)
   merge_clash e l i = record { says = λ x y z k ks f h hx p st v small room. told l ks f i h hx p st v OtherId e }
 
   -- no child is equal: the place goes before the mark
-  pub merge_new : {end u : ℕ} {w' : Bytes} → m ≡ Missing end → InsertsPlace w used end q w' u → MergesMember levels s w used row q w' (Ok u)
+  pub merge_new : {end u : ℕ} {w' : Bytes} → m ≡ Missing end → InsertsPlace end q w used w' u → MergesMember levels row q s w used w' (Ok u)
   merge_new {end} {u} {w'} e ins l i = record {
     says = λ x y z k ks f h hx p st v small room.
         let t = told l ks f i h hx p st v (Missing end) e in
@@ -95,7 +95,7 @@ module _ {levels : ℕ} {s w : Bytes} {used row q : ℕ} {m : Match} (find : Fin
         let n = length_each_place ps in
         let size : length y ≡ 3 * length ps + 3 = omega (arith, ap length p.places.bytes, length-append b (u24 no_place), length_u24 no_place, n) in
         let h2 : Held w used (x ++ b) [] (u24 no_place ++ z) = held_as h (ap (λ y. x ++ (y ++ z)) p.places.bytes ∙ simp append_assoc) in
-        let (j, h3) = ins.inserts (x ++ b) (u24 no_place ++ z) h2 (omega (arith, t.0, hx, refer_length p.places.refer, length-append x b, n))
+        let (j, h3) = ins (x ++ b) (u24 no_place ++ z) h2 (omega (arith, t.0, hx, refer_length p.places.refer, length-append x b, n))
         (omega (arith, room, held_length h, size, p.places.room)) in
         record {
           value = ks ++ (f ∷ []);
@@ -112,24 +112,23 @@ module _ {levels : ℕ} {s w : Bytes} {used row q : ℕ} {m : Match} (find : Fin
 
 abbrev pub Merging : (levels : ℕ) (s w₀ w : Bytes) (used row q count end place left : ℕ) → Type 0
 Merging levels s w₀ w used row q count end place left =
-    Pouring (λ l. merge_child (same_type l)) member_bytes WholeChild levels s row (λ l. Members l s) (MergesMembers levels s w₀ used row q count) (λ l. Members l s) w₀ w end place left
+    Pouring (λ l. merge_child (same_type l)) member_bytes WholeChild levels s row (λ l. Members l s) (MergesMembers levels row q count s w₀ used) (λ l. Members l s) w end place left
 
 pub merging_begin : {levels : ℕ} {s w : Bytes} (used row q count : ℕ) {left : ℕ} → left ≡ count → Merging levels s w w used row q count used q left
 merging_begin used row q count e = record {
-  same = refl;
   rest = λ w' r m l low. record { says = λ x y z k a bs h hx p st v n small. m l bs low small v (n ∙ sym e) st x y z k a h hx p };
 }
 
 module _ {levels : ℕ} {s w₀ w : Bytes} {used row q count end place left : ℕ} (t : Merging levels s w₀ w used row q count end place left) where
-  module _ {w' : Bytes} {r : Merged} (more : 0 < left) (merges : (length w' ≡ length w) × MergesMember levels s w end row place w' r) where
+  module _ {w' : Bytes} {r : Merged} (more : 0 < left) (merges : MergesMember levels row place s w end w' r) where
     one : One (λ l. merge_child (same_type l)) member_bytes WholeChild levels s row (λ l. Members l s) (λ l. Members l s) w end place w' r
-    one l f low small v st x y z k a h hx p = (merges.1 l low).says x y z k a f h hx p st v (omega (arith, st.inside, small))
+    one l f low small v st x y z k a h hx p = (merges l low).says x y z k a f h hx p st v (omega (arith, st.inside, small))
 
-    pub merging_again : {next place' left' : ℕ} → r ≡ Ok next → SkipsMember s place levels place' → left ≡ left' + 1 → Merging levels s w₀ w' used row q count next place' left'
-    merging_again e skips less = pouring_again _ _ _ _ _ _ _ t (λ l. Members l s) more merges.0 one e skips less
+    pub merging_again : {next place' left' : ℕ} → length w' ≡ length w → r ≡ Ok next → SkipsMember s place levels place' → left ≡ left' + 1 → Merging levels s w₀ w' used row q count next place' left'
+    merging_again size e skips less = pouring_again _ _ _ _ _ _ _ t (λ l. Members l s) more one size e skips less
 
-    pub merging_stop : {c : Number} → r ≡ Err c → (length w' ≡ length w₀) × MergesMembers levels s w₀ used row q count w' r
-    merging_stop e = pouring_stop _ _ _ _ _ _ _ t (λ l. Members l s) more merges.0 one e
+    pub merging_stop : {c : Number} → r ≡ Err c → MergesMembers levels row q count s w₀ used w' r
+    merging_stop e = pouring_stop _ _ _ _ _ _ _ t (λ l. Members l s) more one e
 
-  pub merging_done : left ≤ 0 → (length w ≡ length w₀) × MergesMembers levels s w₀ used row q count w (Ok end)
+  pub merging_done : left ≤ 0 → MergesMembers levels row q count s w₀ used w (Ok end)
   merging_done none = pouring_done _ _ _ _ _ _ _ t (λ l k y a p. p) none

@@ -1,5 +1,5 @@
 -- What the functions that merge unions promise: of each row of children and each part of the train that stand where they are told, of at most so
--- many levels. w is the work buffer before, w' after.
+-- many levels. w is the work buffer before, w' after; `used` bytes of it are in use, and `used'` then.
 use Rattle.std.specs.Prelude.{ℕ, suc, ◌+◌, ◌*◌, ◌≤◌, ◌<◌, ◌≡◌, List, [], ◌∷◌, ◌++◌, map, Bool, length, get_or}
 use Rattle.model.specs.Bytes.{Bytes, Every, among}
 use Rattle.model.specs.Numbers.{type_id_clash}
@@ -49,12 +49,12 @@ TellsIds s w row r = (l k : ℕ) (y : Bytes) (ks : List (Field l)) → Places s 
 -- Merges into a row of children
 
 -- the child that stands at q of the train
-abbrev pub MergesMember : (levels : ℕ) (s w : Bytes) (used row q : ℕ) (w' : Bytes) → Merged → Type 0
-MergesMember levels s w used row q w' r = (l : ℕ) → l ≤ levels → MergesOne (Members l s) (merge_child (same_type l)) (member_bytes l) (WholeChild l) s w used row q w' r
+abbrev pub MergesMember : (levels row q : ℕ) (s w : Bytes) (used : ℕ) (w' : Bytes) → Merged → Type 0
+MergesMember levels row q s w used w' r = (l : ℕ) → l ≤ levels → MergesOne (Members l s) (merge_child (same_type l)) (member_bytes l) (WholeChild l) s w used row q w' r
 
 -- so many
-abbrev pub MergesMembers : (levels : ℕ) (s w : Bytes) (used row q count : ℕ) (w' : Bytes) → Merged → Type 0
-MergesMembers levels s w used row q count w' r = (l : ℕ) → l ≤ levels → MergesMany (Members l s) (merge_child (same_type l)) (member_bytes l) (WholeChild l) s w used row q count w' r
+abbrev pub MergesMembers : (levels row q count : ℕ) (s w : Bytes) (used : ℕ) (w' : Bytes) → Merged → Type 0
+MergesMembers levels row q count s w used w' r = (l : ℕ) → l ≤ levels → MergesMany (Members l s) (merge_child (same_type l)) (member_bytes l) (WholeChild l) s w used row q count w' r
 
 -- Unions that are opened
 
@@ -64,10 +64,10 @@ pub record Inserted (l : ℕ) (s : Bytes) (ks : List (Field l)) (w' : Bytes) (us
   pub refer : Refer s (member_bytes l) places ks
   pub held : Held w' used x (each u24 places) z
 
-abbrev pub InsertsMembers : (levels : ℕ) (s w : Bytes) (used row q count : ℕ) (w' : Bytes) → ℕ → Type 0
-InsertsMembers levels s w used row q count w' r =
+abbrev pub InsertsMembers : (levels row q count : ℕ) (s w : Bytes) (used : ℕ) (w' : Bytes) (used' : ℕ) → Type 0
+InsertsMembers levels row q count s w used w' used' =
     (l : ℕ) (ks : List (Field l)) (x z : Bytes) → l ≤ levels → length ks ≡ count → Every (WholeChild l) ks → Stands s q (each (member_bytes l) ks) → length s < no_place
-    → Held w used x [] z → row ≡ length x → used + 3 * count ≤ length w → Inserted l s ks w' r x z
+    → Held w used x [] z → row ≡ length x → used + 3 * count ≤ length w → Inserted l s ks w' used' x z
 
 -- between x and z stands an open union with the children of a, in at most k bytes
 pub record OpenedUnion (l : ℕ) (s : Bytes) (k : ℕ) (a : DataType (suc l)) (w' : Bytes) (used : ℕ) (x z : Bytes) : Type 0 where
@@ -82,17 +82,17 @@ pub record OpenedUnion (l : ℕ) (s : Bytes) (k : ℕ) (a : DataType (suc l)) (w
   pub held : Held w' used x (open_union ∷ (u24 place ++ row_bytes)) z
 
 -- a raw one
-abbrev pub OpensRaw : (levels : ℕ) (s w : Bytes) (used place own : ℕ) (w' : Bytes) → ℕ → Type 0
-OpensRaw levels s w used place own w' r =
+abbrev pub OpensRaw : (levels place own : ℕ) (s w : Bytes) (used : ℕ) (w' : Bytes) (used' : ℕ) → Type 0
+OpensRaw levels place own s w used w' used' =
     (l : ℕ) (k : ℕ) (a : DataType (suc l)) (x z : Bytes) → l ≤ levels → length s < no_place → a.code ≡ Union → RawAt (suc l) s k own a
-    → Held w used x (raw ∷ u24 own) z → place ≡ length x → length x + k + length z ≤ length w → OpenedUnion l s k a w' r x z
+    → Held w used x (raw ∷ u24 own) z → place ≡ length x → length x + k + length z ≤ length w → OpenedUnion l s k a w' used' x z
 
 -- raw or open
-abbrev pub OpensUnion : (levels : ℕ) (s w : Bytes) (used place : ℕ) (w' : Bytes) → ℕ → Type 0
-OpensUnion levels s w used place w' r =
+abbrev pub OpensUnion : (levels place : ℕ) (s w : Bytes) (used : ℕ) (w' : Bytes) (used' : ℕ) → Type 0
+OpensUnion levels place s w used w' used' =
     (l : ℕ) (first : DataType (suc l)) → l ≤ levels → length s < no_place
     → (x y z : Bytes) (k : ℕ) (a : DataType (suc l)) → Held w used x y z → place ≡ length x → Coded l s first Union k y a → length x + k + length z ≤ length w
-    → OpenedUnion l s k a w' r x z
+    → OpenedUnion l s k a w' used' x z
 
 -- The merge of two unions
 
@@ -100,7 +100,7 @@ OpensUnion levels s w used place w' r =
 abbrev pub merge_union : (l : ℕ) → DataType (suc l) → DataType (suc l) → model.Merged (DataType (suc l))
 merge_union l a u = pour (merge_child (same_type l)) a.children u.children >>= λ ks. need (ids_differ ks) type_id_clash (with_children a ks)
 
-abbrev pub MergesUnion : (levels : ℕ) (s w : Bytes) (used place t : ℕ) (w' : Bytes) → Merged → Type 0
-MergesUnion levels s w used place t w' r =
+abbrev pub MergesUnion : (levels place t : ℕ) (s w : Bytes) (used : ℕ) (w' : Bytes) → Merged → Type 0
+MergesUnion levels place t s w used w' r =
     (l : ℕ) (first u : DataType (suc l)) → l ≤ levels → u.code ≡ Union → IncomingType (suc l) s t u
     → Becomes (Coded l s first Union) (SpellType (suc l) s first) w used place (4 * length (type_bytes (suc l) u)) w' r (λ a. merge_union l a u)

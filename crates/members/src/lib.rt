@@ -1,15 +1,15 @@
-// Document 01, module 4, the merge of unions: `UnionFields::try_merge` of fields.rs, in the table of the work buffer. s is the train, w the work
-// buffer, of which `used` bytes hold the table. A union in the table has a row of places, at each of which one of its children stands in the
-// train. The functions take any bytes and any places; where the parts that they are for stand there, of at most so many levels, they do what
+// Document 01, module 4, the merge of unions: `UnionFields::try_merge` of fields.rs, in the table of the work buffer. A union in the table has a
+// row of places, at each of which one of its children stands in the train. The functions take any bytes and any places; where the parts that they are for stand there, of at most so many levels, they do what
 // the definitions of specs/Claims.antt say.
 #![tactic(auto)]
 
-ghost use Rattle.std.specs.Prelude.{◌≡◌, length, get_or, eqb};
+ghost use Rattle.std.specs.Prelude.{◌≡◌, get_or, eqb};
+ghost use Rattle.table.specs.Edited.{Edits, Merges};
 ghost use Rattle.members.specs.Rows.{by_id};
 ghost use Rattle.members.specs.Claims.{SameMembers, SkipsMember, FindsChildren, FindsMember, FindsId, TellsIds, MergesMember, MergesMembers, InsertsMembers, OpensRaw, OpensUnion, MergesUnion};
 
 use buffer::Number;
-use table::{Kind, PlaceRow};
+use table::{Kind, PlaceRow, Table};
 use walk::Elements;
 
 // What the search for an equal child ends with: the first one has the id of the child that comes in, or another; or where the row ends.
@@ -40,32 +40,28 @@ fn by_id(s: &[u8], a: usize, b: usize) -> Match
 }
 
 // The first child of a row whose field is equal to that of a child of the train.
-fn find_member(s: &[u8], w: &[u8], row: usize, q: usize, levels: usize) -> Match
-    ensures { FindsMember levels s.now w.now row q result }
+fn find_member(table: &Table<'_>, row: usize, q: usize, levels: usize) -> Match
+    ensures { FindsMember levels table.now.train.now table.now.w.now row q result }
 {
-    let mut children = PlaceRow::new(w, row);
-    match children.find(|there| same_member(s, q, *there, levels)) {
-        Some(there) => by_id(s, there, q),
+    let train = table.train;
+    let mut children = table.places(row);
+    match children.find(|there| same_member(train, q, *there, levels)) {
+        Some(there) => by_id(train, there, q),
         None => Match::Missing(children.at),
     }
 }
 
 // "each newcomer is matched to the first equal child so far", which must have its id; one that is equal to none goes behind them all.
-pub fn merge_member(
-    s: &[u8],
-    w: &mut [u8],
-    used: usize,
-    at: usize,
-    q: usize,
-    levels: usize,
-) -> Result<usize, Number>
-    ensures { (length w.new ≡ length w.old) × MergesMember levels s.now w.old used at q w.new result }
+pub fn merge_member(table: &mut Table<'_>, at: usize, q: usize, levels: usize) -> Result<(), Number>
+    ensures { Merges (MergesMember levels at q) table.old table.new result }
 {
-    let found = find_member(s, w, at, q, levels);
-    match found {
-        Match::SameId => Ok(used),
+    match find_member(table, at, q, levels) {
+        Match::SameId => Ok(()),
         Match::OtherId => Err(Number::EqualChildClash),
-        Match::Missing(end) => Ok(table::insert_place(w, used, end, q)),
+        Match::Missing(end) => {
+            table.insert_place(end, q);
+            Ok(())
+        }
     }
 }
 
@@ -78,26 +74,20 @@ fn skip_member(s: &[u8], at: usize, levels: usize) -> usize
 
 // Children of the train, one behind the other, into a row of children: the loop of `UnionFields::try_merge`.
 pub fn merge_members(
-    s: &[u8],
-    w: &mut [u8],
-    used: usize,
+    table: &mut Table<'_>,
     at: usize,
     new: Elements,
     levels: usize,
-) -> Result<usize, Number>
-    ensures { (length w.new ≡ length w.old) × MergesMembers levels s.now w.old used at new.at new.count w.new result }
+) -> Result<(), Number>
+    ensures { Merges (MergesMembers levels at new.at new.count) table.old table.new result }
 {
+    let train = table.train;
     let mut place = new.at;
-    let mut end = used;
     for _ in 0..new.count {
-        let merged = merge_member(s, w, end, at, place, levels);
-        let Ok(next) = merged else {
-            return merged;
-        };
-        end = next;
-        place = skip_member(s, place, levels);
+        merge_member(table, at, place, levels)?;
+        place = skip_member(train, place, levels);
     }
-    Ok(end)
+    Ok(())
 }
 
 // Whether a child of a row has this id.
@@ -109,12 +99,13 @@ fn has_id(s: &[u8], mut row: PlaceRow<'_>, id: usize) -> bool
 
 // `UnionFields::try_new` at its end: no id twice, so none that one behind has too. Ids are bytes and of 257 children two have one id, so there
 // are at most 256 turns.
-pub fn ids_differ(s: &[u8], w: &[u8], row: usize) -> bool
-    ensures { TellsIds s.now w.now row result }
+pub fn ids_differ(table: &Table<'_>, row: usize) -> bool
+    ensures { TellsIds table.now.train.now table.now.w.now row result }
 {
-    let mut behind = PlaceRow::new(w, row);
+    let train = table.train;
+    let mut behind = table.places(row);
     while let Some(there) = behind.next() {
-        if has_id(s, behind, walk::byte(s, there)) {
+        if has_id(train, behind, walk::byte(train, there)) {
             return false;
         }
     }
@@ -129,69 +120,51 @@ fn find_children(s: &[u8], t: usize) -> Elements
 }
 
 // Puts in the places of children of the train, which stand one behind the other.
-fn insert_members(
-    s: &[u8],
-    w: &mut [u8],
-    used: usize,
-    at: usize,
-    children: Elements,
-    levels: usize,
-) -> usize
-    ensures { (length w.new ≡ length w.old) × InsertsMembers levels s.now w.old used at children.at children.count w.new result }
+fn insert_members(table: &mut Table<'_>, at: usize, children: Elements, levels: usize)
+    ensures { Edits (InsertsMembers levels at children.at children.count) table.old table.new }
 {
+    let train = table.train;
     let mut place = children.at;
     let mut row = at;
-    let mut end = used;
     for _ in 0..children.count {
-        end = table::insert_place(w, end, row, place);
-        row = walk::ahead(w, row, 3);
-        place = skip_member(s, place, levels);
+        table.insert_place(row, place);
+        row = table.ahead(row, 3);
+        place = skip_member(train, place, levels);
     }
-    end
 }
 
 // A raw union, whose place in the train is `own`, becomes an open one: the kind, and the places of its own children up to the mark.
-fn open_raw(s: &[u8], w: &mut [u8], used: usize, at: usize, own: usize, levels: usize) -> usize
-    ensures { (length w.new ≡ length w.old) × OpensRaw levels s.now w.old used at own w.new result }
+fn open_raw(table: &mut Table<'_>, at: usize, own: usize, levels: usize)
+    ensures { Edits (OpensRaw levels at own) table.old table.new }
 {
-    let children = find_children(s, own);
-    table::set_byte(w, used, at, Kind::OpenUnion as usize);
-    let row = walk::ahead(w, at, 4);
-    let end = table::insert_place(w, used, row, table::NO_PLACE);
-    insert_members(s, w, end, row, children, levels)
+    let children = find_children(table.train, own);
+    table.set_byte(at, Kind::OpenUnion as usize);
+    let row = table.ahead(at, 4);
+    table.insert_place(row, table::NO_PLACE);
+    insert_members(table, row, children, levels);
 }
 
 // A union of the table is opened, if it is raw.
-fn open_union(s: &[u8], w: &mut [u8], used: usize, at: usize, levels: usize) -> usize
-    ensures { (length w.new ≡ length w.old) × OpensUnion levels s.now w.old used at w.new result }
+fn open_union(table: &mut Table<'_>, at: usize, levels: usize)
+    ensures { Edits (OpensUnion levels at) table.old table.new }
 {
-    if table::kind_at(w, at) == Kind::OpenUnion {
-        return used;
+    if table.kind_at(at) == Kind::OpenUnion {
+        return;
     }
-    let own = table::three(w, walk::ahead(w, at, 1));
-    open_raw(s, w, used, at, own, levels)
+    let own = table.place_at(at);
+    open_raw(table, at, own, levels);
 }
 
 // The arm of `Field::try_merge` for two unions: `UnionFields::try_merge`, the children of the second into those of the first.
-pub fn merge_union(
-    s: &[u8],
-    w: &mut [u8],
-    used: usize,
-    at: usize,
-    t: usize,
-    levels: usize,
-) -> Result<usize, Number>
-    ensures { (length w.new ≡ length w.old) × MergesUnion levels s.now w.old used at t w.new result }
+pub fn merge_union(table: &mut Table<'_>, at: usize, t: usize, levels: usize) -> Result<(), Number>
+    ensures { Merges (MergesUnion levels at t) table.old table.new result }
 {
-    let end = open_union(s, w, used, at, levels);
-    let row = walk::ahead(w, at, 4);
-    let children = find_children(s, t);
-    let merged = merge_members(s, w, end, row, children, levels);
-    let Ok(next) = merged else {
-        return merged;
-    };
-    if ids_differ(s, w, row) {
-        return Ok(next);
+    let children = find_children(table.train, t);
+    open_union(table, at, levels);
+    let row = table.ahead(at, 4);
+    merge_members(table, row, children, levels)?;
+    if ids_differ(table, row) {
+        return Ok(());
     }
     Err(Number::TypeIdClash)
 }

@@ -12,11 +12,10 @@ use Rattle.model.specs.Tree.{Head, Field}
 use Rattle.model.specs.Sheet.{part, with_count, pair_bytes, head_bytes}
 use Rattle.model.proofs.SameBytes.{metadata_same_eq}
 use Rattle.walk.specs.Stands.{Stands}
-use Rattle.walk.proofs.Standing.{byte_stands, stands_behind, skip_ahead}
-use Rattle.walk.proofs.Parts.{Ahead}
+use Rattle.walk.proofs.Standing.{byte_stands}
 use Rattle.walk.proofs.Descents.{head_stands}
-use Rattle.table.specs.Table.{u24, three, Places, SpellMetadata, raw_pairs, pair_places, SpellField}
-use Rattle.table.proofs.Numbers.{three_stands}
+use Rattle.table.specs.Table.{u24, Places, SpellMetadata, raw_pairs, pair_places, SpellField}
+use Rattle.table.specs.Look.{NamesPlace}
 use Rattle.metadata.specs.Fields.{with_metadata}
 use Rattle.metadata.proofs.Heads.{SameMetadata}
 
@@ -26,11 +25,8 @@ module _ (l : ℕ) {s w : Bytes} {place k : ℕ} {y : Bytes} {f : Field l} (e : 
   flags_is i = i ∙ byte_stands (subst (Stands w place) e.bytes st)
 
   -- behind them stands the place of the first occurrence
-  pub first_head : {m t : ℕ} → Ahead w place 1 m → t ≡ three w m → Stands s t (head_bytes e.own.head)
-  first_head {m} {t} a i =
-      let st2 = stands_behind (skip_ahead (e.flags ∷ []) refl a.1) (subst (Stands w place) e.bytes st) in
-      let j : t ≡ e.first = i ∙ three_stands e.first _ (omega (arith, e.small)) st2 in
-      subst (λ p. Stands s p (head_bytes e.own.head)) (sym j) (head_stands l e.own e.stands)
+  pub first_head : {t : ℕ} → NamesPlace w place t → Stands s t (head_bytes e.own.head)
+  first_head n = subst (λ p. Stands s p (head_bytes e.own.head)) (sym (n e.flags e.first _ e.small (subst (Stands w place) e.bytes st))) (head_stands l e.own e.stands)
 
 -- the metadata of an entry by its flags
 
@@ -83,7 +79,7 @@ abbrev pub HasMetadata : Bytes → Bytes → ℕ → ℕ → Bool → Type 0
 HasMetadata s w place q r =
     (l k : ℕ) (y : Bytes) (f : Field l) (h : Head) → SpellField l s k y f → Stands w place y → Stands s q (head_bytes h) → r ≡ true → f.head.metadata ≡ h.metadata
 
-pub has_same : {s w : Bytes} {place q n m t : ℕ} {r : Bool} → n ≡ get_or w place 0 → (n / 4 ≡ 1 → ⊥) → Ahead w place 1 m → t ≡ three w m → SameMetadata s t q r → HasMetadata s w place q r
-has_same i never a j v l k y f h e st u true' =
+pub has_same : {s w : Bytes} {place q n t : ℕ} {r : Bool} → n ≡ get_or w place 0 → (n / 4 ≡ 1 → ⊥) → NamesPlace w place t → SameMetadata s t q r → HasMetadata s w place q r
+has_same i never j v l k y f h e st u true' =
     sym (is_raw e.flags (λ z. never (ap (λ n. n / 4) (flags_is l e st i) ∙ z)) e.metadata).same
-    ∙ metadata_same_eq e.own.head.metadata h.metadata (sym (v e.own.head h (first_head l e st a j) u) ∙ true')
+    ∙ metadata_same_eq e.own.head.metadata h.metadata (sym (v e.own.head h (first_head l e st j) u) ∙ true')

@@ -15,39 +15,38 @@ use Rattle.model.specs.Merge.{Merged, done, clash, ◌>>=◌, merge_pair, merge_
 use Rattle.model.specs.WellFormed.{Each, WellFormedPair}
 use Rattle.model.proofs.Gives.{Gives, value, of_done, pour_none}
 use Rattle.model.proofs.SortedMetadata.{merge_into_none, merge_into_self}
-use Rattle.std.specs.Result.{result_unwrap_or}
 use Rattle.buffer.specs.declared.refusal.Number.{Number}
 use Rattle.walk.specs.Stands.{Stands}
 use Rattle.walk.proofs.Parts.{Ahead}
 use Rattle.table.specs.Held.{Held}
-use Rattle.table.specs.Table.{u24, three, no_place, Places, pair_places, SpellField}
+use Rattle.table.specs.Table.{u24, no_place, Places, pair_places, SpellField}
 use Rattle.table.specs.Says as table
 use Rattle.std.proofs.Common.{Ok, Err}
 use Rattle.table.proofs.Numbers.{length_u24}
 use Rattle.table.proofs.Held.{held_as, held_length, held_stands}
 use Rattle.table.proofs.Says.{says_in}
-use Rattle.table.proofs.Opening.{SetsByte}
 use Rattle.metadata.specs.Fields.{with_metadata, merge_field_metadata, Opened}
 use Rattle.metadata.specs.Merges.{SaysRow, SaysEntry, MergesPairs, Marks, OpensMetadata, MergesMetadata}
-use Rattle.table.specs.Edits.{InsertsPlace}
+use Rattle.table.specs.Look.{NamesPlace}
+use Rattle.table.specs.Edits.{SetsByte, InsertsPlace}
 use Rattle.table.proofs.Places.{places_none}
 use Rattle.table.proofs.Fits.{type_fits, field_fits}
 use Rattle.metadata.proofs.Heads.{FindsPairs, part_long, part_counted}
 use Rattle.metadata.proofs.Entries.{flags_is, first_head, is_raw, is_opened, respelt, wider, HasMetadata}
 
-pub marked : {w w₁ w' : Bytes} {used place flags row r : ℕ} → (length w₁ ≡ length w) × SetsByte w used place (flags % 4 + 4) w₁ → Ahead w₁ place 4 row → InsertsPlace w₁ used row no_place w' r → Marks w used place flags w' r
-marked {w} {w₁} {w'} {used} {place} {flags} {row} {r} set a ins = record { same_length = ins.same_length ∙ set.0; marks = go }
+pub marked : {w w₁ w' : Bytes} {used place flags row r : ℕ} → length w₁ ≡ length w → SetsByte place (flags % 4 + 4) w used w₁ → Ahead w₁ place 4 row → InsertsPlace row no_place w₁ used w' r → Marks place flags w used w' r
+marked {w} {w₁} {w'} {used} {place} {flags} {row} {r} size set a ins = record { marks = go }
   where
     go : (x z b : Bytes) (first : ℕ) → Held w used x (flags ∷ (u24 first ++ b)) z → place ≡ length x → flags < 4 → used + 3 ≤ length w
         → (r ≡ used + 3) × Held w' r (x ++ ((flags + 4) ∷ u24 first)) (u24 no_place) (b ++ z)
     go x z b first h hx low room =
         let f : flags % 4 + 4 ≡ flags + 4 = omega (arith, low) in
         let h₁ : Held w used x (flags ∷ []) ((u24 first ++ b) ++ z) = held_as h refl in
-        let h₂ = subst (λ n. Held w₁ used x (n ∷ []) ((u24 first ++ b) ++ z)) f (set.1 x ((u24 first ++ b) ++ z) flags h₁ hx (omega arith)) in
+        let h₂ = subst (λ n. Held w₁ used x (n ∷ []) ((u24 first ++ b) ++ z)) f (set x ((u24 first ++ b) ++ z) flags h₁ hx (omega arith)) in
         let h₃ : Held w₁ used (x ++ ((flags + 4) ∷ u24 first)) [] (b ++ z) = held_as h₂ (simp append_assoc) in
         let n : length (x ++ ((flags + 4) ∷ u24 first)) ≡ length x + 4 = omega (arith, length-append x ((flags + 4) ∷ u24 first), length_u24 first) in
         let inside : place + 4 ≤ length w₁ = omega (arith, hx, n, held_length h₃, h₃.fits) in
-        ins.inserts (x ++ ((flags + 4) ∷ u24 first)) (b ++ z) h₃ (omega (arith, a.1 inside, hx, n)) (omega (arith, room, set.0))
+        ins (x ++ ((flags + 4) ∷ u24 first)) (b ++ z) h₃ (omega (arith, a.1 inside, hx, n)) (omega (arith, room, size))
 
 -- Places of the pairs of an entry's first occurrence
 
@@ -74,9 +73,8 @@ done_clash {A} {a} {n} e = is_done (subst (λ r. IsDone r) e tt)
 
 module _ {s w : Bytes} {used place n : ℕ} (i : n ≡ get_or w place 0) where
   -- it has them
-  pub opens_none : n / 4 ≡ 1 → OpensMetadata s w used place w used
+  pub opens_none : n / 4 ≡ 1 → OpensMetadata place s w used w used
   opens_none o = record {
-    same_length = refl;
     opens = λ l x y z k f h hx e small room. record {
       spelt = e.flags ∷ (u24 e.first ++ (e.metadata_bytes ++ e.type_spelt));
       entry = wider l e (k + 3) (omega arith);
@@ -86,8 +84,8 @@ module _ {s w : Bytes} {used place n : ℕ} (i : n ≡ get_or w place 0) where
   }
 
   -- it gets them: pairs in the order of their keys, merged into none, stay as they are
-  module _ (never : n / 4 ≡ 1 → ⊥) {m t count first : ℕ} (a : Ahead w place 1 m) (j : t ≡ three w m) (p : FindsPairs s t count first)
-      {w₁ w₂ : Bytes} {end row number : ℕ} {r : table.Merged} (marks : Marks w used place n w₁ end) (b : Ahead w₁ place 4 row) (merges : MergesPairs s w₁ end row first count number w₂ r) where
+  module _ (never : n / 4 ≡ 1 → ⊥) {t count first : ℕ} (j : NamesPlace w place t) (p : FindsPairs s t count first)
+      {w₁ w₂ : Bytes} {end row number : ℕ} {r : table.Merged} (grown : length w₁ ≡ length w) (marks : Marks place n w used w₁ end) (b : Ahead w₁ place 4 row) (merges : MergesPairs row first count number s w₁ end w₂ r) where
     opening : (l : ℕ) (x y z : Bytes) (k : ℕ) (f : Field l) → Held w used x y z → place ≡ length x → (e : SpellField l s k y f) → length s < no_place → length x + (k + 3) + length z ≤ length w
         → {res : table.Merged} → r ≡ res → SaysRow s (3 + 4 * length (each pair_bytes e.own.head.metadata)) (x ++ ((n + 4) ∷ u24 e.first)) (e.type_spelt ++ z) w₂ res (done f.head.metadata)
     opening l x y z k f h hx e small room {res} ok =
@@ -95,7 +93,7 @@ module _ {s w : Bytes} {used place n : ℕ} (i : n ≡ get_or w place 0) where
         let g = flags_is l e st i in
         let raw = is_raw e.flags (λ q. never (ap (λ n. n / 4) g ∙ q)) e.metadata in
         let own = e.own.head.metadata in
-        let pairs = p e.own.head (first_head l e st a j) in
+        let pairs = p e.own.head (first_head l e st j) in
         let v = e.bytes ∙ ap (λ v. e.flags ∷ (u24 e.first ++ (v ++ e.type_spelt))) raw.none ∙ ap (λ n. n ∷ (u24 e.first ++ e.type_spelt)) (sym g) in
         let (q, h₁) = marks.marks x z e.type_spelt e.first (subst (λ v. Held w used x v z) v h) hx (low_flags n (omega (arith, g, e.small_flags)) never)
         (omega (arith, room, held_length h, field_fits l e)) in
@@ -107,17 +105,13 @@ module _ {s w : Bytes} {used place n : ℕ} (i : n ≡ get_or w place 0) where
         subst (λ t. SaysRow s (3 + 4 * length (each pair_bytes own)) X Z w₂ t (done f.head.metadata)) ok
         (subst (λ t. SaysRow s (3 + 4 * length (each pair_bytes own)) X Z w₂ r t) (merge_into_none number own e.well_formed.metadata ∙ ap done raw.same)
         (merges.says own pairs.count pairs.stands e.well_formed.metadata small (x ++ ((n + 4) ∷ u24 e.first)) (u24 no_place) (e.type_spelt ++ z) 3 [] h₁ (omega (arith, b.1 inside, hx, c)) places_none
-        (omega (arith, room, c, length-append e.type_spelt z, fits, e.room, raw.room, part_long own, marks.same_length))))
+        (omega (arith, room, c, length-append e.type_spelt z, fits, e.room, raw.room, part_long own, grown))))
 
-    opens_clash : {c : Number} {u : ℕ} → r ≡ Err c → OpensMetadata s w used place w₂ u
-    opens_clash {c} e = record {
-      same_length = merges.same_length ∙ marks.same_length;
-      opens = λ l x y z k f h hx q small room.
-          absurd (done_clash (opening l x y z k f h hx q small room e));
-    }
+    opens_clash : {c : Number} {u : ℕ} → r ≡ Err c → OpensMetadata place s w used w₂ u
+    opens_clash {c} e = record { opens = λ l x y z k f h hx q small room. absurd (done_clash (opening l x y z k f h hx q small room e)) }
 
-    opens_row : {next : ℕ} → r ≡ Ok next → OpensMetadata s w used place w₂ next
-    opens_row {next} ok = record { same_length = merges.same_length ∙ marks.same_length; opens = go }
+    opens_row : {next : ℕ} → r ≡ Ok next → OpensMetadata place s w used w₂ next
+    opens_row {next} ok = record { opens = go }
       where
         go : (l : ℕ) (x y z : Bytes) (k : ℕ) (f : Field l) → Held w used x y z → place ≡ length x → SpellField l s k y f → length s < no_place → length x + (k + 3) + length z ≤ length w
             → Opened l s (k + 3) x z w₂ next f
@@ -136,13 +130,13 @@ module _ {s w : Bytes} {used place n : ℕ} (i : n ≡ get_or w place 0) where
               held = held_as t.held (simp append_assoc);
             }
 
-    -- a clash of them would leave it as it was
-    pub opens_some : {next : ℕ} → next ≡ result_unwrap_or r used → OpensMetadata s w used place w₂ next
-    opens_some {next} e = go r refl e
+    -- they do not clash: as many are in use as their merge gave
+    pub opens_some : {next : ℕ} → ((u : ℕ) → r ≡ Ok u → next ≡ u) → OpensMetadata place s w used w₂ next
+    opens_some {next} gave = go r refl
       where
-        go : (q : table.Merged) → r ≡ q → next ≡ result_unwrap_or q used → OpensMetadata s w used place w₂ next
-        go (Ok m) i j = opens_row (i ∙ ap (λ (n : ℕ). Ok n) (sym j))
-        go (Err c) i j = opens_clash i
+        go : (q : table.Merged) → r ≡ q → OpensMetadata place s w used w₂ next
+        go (Ok u) i = opens_row (i ∙ ap (λ (n : ℕ). Ok n) (sym (gave u i)))
+        go (Err c) i = opens_clash i
 
 -- What is merged into an entry's metadata
 
@@ -162,10 +156,9 @@ kept {w = w} {used = used} l x y z k b f m h e fits i = record {
 
 module _ {s w : Bytes} {used place q : ℕ} where
   -- none
-  pub merges_none : {count first : ℕ} → FindsPairs s q count first → count ≡ 0 → MergesMetadata s w used place q w (Ok used)
+  pub merges_none : {count first : ℕ} → FindsPairs s q count first → count ≡ 0 → MergesMetadata place q s w used w (Ok used)
   unfolding merge_metadata
   merges_none p c = record {
-    same_length = refl;
     says = λ l h st sorted small x y z k f held hx e room. kept l x y z k _ f h.metadata held e (omega arith) (go f.head.metadata h.metadata ((p h st).count ∙ c));
   }
     where
@@ -174,9 +167,8 @@ module _ {s w : Bytes} {used place q : ℕ} where
       go m (p ∷ n) e = absurd (omega (arith, e))
 
   -- the same
-  pub merges_same : {b : Bool} → HasMetadata s w place q b → b ≡ true → MergesMetadata s w used place q w (Ok used)
+  pub merges_same : {b : Bool} → HasMetadata s w place q b → b ≡ true → MergesMetadata place q s w used w (Ok used)
   merges_same has i = record {
-    same_length = refl;
     says = λ l h st sorted small x y z k f held hx e room.
         let g = has l k y f h e (held_stands held hx) st i in
         kept l x y z k _ f h.metadata held e (omega arith)
@@ -184,9 +176,9 @@ module _ {s w : Bytes} {used place q : ℕ} where
   }
 
   -- pair by pair
-  pub merges_row : {count first end row : ℕ} {w₁ w₂ : Bytes} {r : table.Merged} → FindsPairs s q count first → (count ≡ 0 → ⊥) → OpensMetadata s w used place w₁ end → Ahead w₁ place 4 row
-      → MergesPairs s w₁ end row first count field_metadata_clash w₂ r → MergesMetadata s w used place q w₂ r
-  merges_row {count} {first} {end} {row} {w₁} {w₂} {r} p never opens a merges = record { same_length = merges.same_length ∙ opens.same_length; says = go }
+  pub merges_row : {count first end row : ℕ} {w₁ w₂ : Bytes} {r : table.Merged} → FindsPairs s q count first → (count ≡ 0 → ⊥) → length w₁ ≡ length w → OpensMetadata place s w used w₁ end → Ahead w₁ place 4 row
+      → MergesPairs row first count field_metadata_clash s w₁ end w₂ r → MergesMetadata place q s w used w₂ r
+  merges_row {count} {first} {end} {row} {w₁} {w₂} {r} p never grown opens a merges = record { says = go }
     where
       go : (l : ℕ) (h : Head) → Stands s q (head_bytes h) → Each WellFormedPair [] h.metadata → length s < no_place → (x y z : Bytes) (k : ℕ) (f : Field l) → Held w used x y z → place ≡ length x
           → SpellField l s k y f → length x + (k + 4 * length (part (with_count pair_bytes) h.metadata)) + length z ≤ length w
@@ -209,4 +201,4 @@ module _ {s w : Bytes} {used place q : ℕ} where
           (λ j v n pl₂ hj. (4 + j + e.type_room, respelt l e e.flags v j (4 + j + e.type_room) e.small_flags refl (pair_places (eq-eqb (e.flags / 4) 1 o.opened) pl₂) (omega arith), omega (arith, hj, e.room, size)))
           r
           (merges.says new pairs.count pairs.stands sorted small (x ++ front) e.metadata_bytes (e.type_spelt ++ z) e.metadata_room f.head.metadata h₁ (omega (arith, a.1 inside, hx, c)) pl
-          (omega (arith, room, c, length-append e.type_spelt z, fits, e.room, size, opens.same_length)))
+          (omega (arith, room, c, length-append e.type_spelt z, fits, e.room, size, grown)))

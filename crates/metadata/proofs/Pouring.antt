@@ -52,14 +52,12 @@ pub record Left (s w : Bytes) (number from end place left : ℕ) (x z : Bytes) (
   pub is : whole ≡ merge_metadata number (passed ++ others) rest
 
 pub record Pouring (s w₀ w : Bytes) (used row q count number from end place left : ℕ) : Type 0 where
-  pub same : length w ≡ length w₀
   pub rest : (x y z : Bytes) (k : ℕ) (m new : Metadata) → Held w₀ used x y z → row ≡ length x → Places s pair_bytes k y m → length new ≡ count → Stands s q (each pair_bytes new)
       → Each WellFormedPair [] new → length s < no_place → length x + (k + 4 * length (each pair_bytes new)) + length z ≤ length w₀
       → Left s w number from end place left x z (k + 4 * length (each pair_bytes new)) (merge_metadata number m new)
 
 pub pour_begin : {s w : Bytes} (used row q count number : ℕ) {left : ℕ} → left ≡ count → Pouring s w w used row q count number row used q left
 pour_begin used row q count number e = record {
-  same = refl;
   rest = λ x y z k m new h hx pl n st sorted small room. record {
     passed_places = [];
     passed = [];
@@ -94,7 +92,7 @@ module _ (n : ℕ) (before after : Metadata) (p : Bytes × Bytes) (low : Lower b
 
 -- One turn
 
-module _ {s w w' : Bytes} {number from spot end place left : ℕ} {r : Merged} (find : FindsKey s w from place spot) (puts : PutsPair s w end spot place number w' r)
+module _ {s w w' : Bytes} {number from spot end place left : ℕ} {r : Merged} (find : FindsKey s w from place spot) (puts : PutsPair spot place number s w end w' r)
     (more : 0 < left) (small : length s < no_place) {x z : Bytes} {b : ℕ} {whole : model.Merged Metadata} (k : Left s w number from end place left x z b whole) where
   -- what the turn starts with
   record Turn : Type 0 where
@@ -128,9 +126,9 @@ module _ {s w w' : Bytes} {number from spot end place left : ℕ} {r : Merged} (
           let both = each_append u24 k.passed_places c.before_places in
           let h : Held w end (x ++ each u24 (k.passed_places ++ c.before_places)) after z =
           held_as k.held (subst (λ t. (x ++ passed) ++ (k.spelt ++ z) ≡ (x ++ t) ++ (after ++ z)) (sym both) (ap (λ t. (x ++ passed) ++ (t ++ z)) c.bytes ∙ simp append_assoc)) in
-          let size = length-append x (each u24 (k.passed_places ++ c.before_places)) in
+          let fronts = length-append x (each u24 (k.passed_places ++ c.before_places)) in
           let size₂ = ap length both ∙ length-append passed before in
-          let spots : spot ≡ length (x ++ each u24 (k.passed_places ++ c.before_places)) = omega (arith, c.stands, k.here, length-append x passed, size, size₂) in
+          let spots : spot ≡ length (x ++ each u24 (k.passed_places ++ c.before_places)) = omega (arith, c.stands, k.here, length-append x passed, fronts, size₂) in
           let long : 3 * length (k.passed_places ++ c.before_places) + (3 * length c.after_places + 3) ≤ 3 * length k.passed_places + k.room =
           omega (arith, places_fit k.places, ap length c.bytes, length-append before after, length_each_place c.before_places, length_places c.after_places, length-append k.passed_places c.before_places) in
           record {
@@ -146,15 +144,15 @@ module _ {s w w' : Bytes} {number from spot end place left : ℕ} {r : Merged} (
             says = λ i. subst (λ t. SaysRow s (3 * length c.after_places + 3 + 4 * length (pair_bytes p)) (x ++ each u24 (k.passed_places ++ c.before_places)) z w' t (merge_pair number c.after p)) i
                 (puts.says (x ++ each u24 (k.passed_places ++ c.before_places)) after z (3 * length c.after_places + 3) c.after p h spots
                 (record { places = c.after_places; bytes = refl; refer = c.refer_after; room = omega arith }) d.rest pair (omega (arith, st.inside, n, pair_long p, small))
-                (omega (arith, k.all, k.fits, long, n, ap (λ t. length (each pair_bytes t)) e, size, length_each_place (k.passed_places ++ c.before_places))));
+                (omega (arith, k.all, k.fits, long, n, ap (λ t. length (each pair_bytes t)) e, fronts, length_each_place (k.passed_places ++ c.before_places))));
             total = ap (λ t. length (each pair_bytes t)) e ∙ n;
             starts = k.is ∙ ap (merge_metadata number (k.passed ++ k.others)) e
                 ∙ ap (λ t. merge_metadata number t (p ∷ ps)) (ap (λ t. k.passed ++ t) c.pairs ∙ sym (append_assoc k.passed c.before c.after));
           }
 
-  left_again : {next value place' left' : ℕ} → r ≡ Ok next → SkipsText s place value → SkipsText s value place' → left ≡ left' + 1 → Left s w' number spot next place' left' x z b whole
+  left_again : {next value place' left' : ℕ} → length w' ≡ length w → r ≡ Ok next → SkipsText s place value → SkipsText s value place' → left ≡ left' + 1 → Left s w' number spot next place' left' x z b whole
   unfolding merge_metadata
-  left_again i key value one =
+  left_again size i key value one =
       let t = turn in
       let c = t.cut in
       let u = t.says i in
@@ -178,7 +176,7 @@ module _ {s w w' : Bytes} {number from spot end place left : ℕ} {r : Merged} (
         counts = omega (arith, k.counts, ap length t.rests, one);
         stands = stands_behind (pair_skips key value t.p) (subst (λ n. Stands s place (each pair_bytes n)) t.rests k.stands);
         fits = omega (arith, k.fits, u.fits, t.long, t.total);
-        all = omega (arith, k.all, puts.same_length);
+        all = omega (arith, k.all, size);
         is = t.starts ∙ gives.pour_next (merge_pair number) ((k.passed ++ c.before) ++ c.after) t.p t.ps ((k.passed ++ c.before) ++ u.value) (past_done number (k.passed ++ c.before) c.after t.p t.low u.value u.is);
       }
 
@@ -190,27 +188,24 @@ module _ {s w w' : Bytes} {number from spot end place left : ℕ} {r : Merged} (
       t.starts ∙ gives.pour_stop (merge_pair number) ((k.passed ++ t.cut.before) ++ t.cut.after) t.p t.ps (number_of c) (past_clash number (k.passed ++ t.cut.before) t.cut.after t.p t.low (number_of c) u)
 
 module _ {s w₀ w w' : Bytes} {used row q count number from spot end place left : ℕ} (k : Pouring s w₀ w used row q count number from end place left) where
-  module _ {r : Merged} (more : 0 < left) (find : FindsKey s w from place spot) (puts : PutsPair s w end spot place number w' r) where
-    pub pour_again : {next value place' left' : ℕ} → r ≡ Ok next → SkipsText s place value → SkipsText s value place' → left ≡ left' + 1 → Pouring s w₀ w' used row q count number spot next place' left'
-    pour_again i key value one = record {
-      same = puts.same_length ∙ k.same;
-      rest = λ x y z j m new h hx pl n st sorted small room. left_again find puts more small (k.rest x y z j m new h hx pl n st sorted small room) i key value one;
+  module _ {r : Merged} (more : 0 < left) (find : FindsKey s w from place spot) (puts : PutsPair spot place number s w end w' r) where
+    pub pour_again : {next value place' left' : ℕ} → length w' ≡ length w → r ≡ Ok next → SkipsText s place value → SkipsText s value place' → left ≡ left' + 1 → Pouring s w₀ w' used row q count number spot next place' left'
+    pour_again size i key value one = record {
+      rest = λ x y z j m new h hx pl n st sorted small room. left_again find puts more small (k.rest x y z j m new h hx pl n st sorted small room) size i key value one;
     }
 
     -- a clash of one pair is that of all
-    pub pour_stop : {c : Number} → r ≡ Err c → MergesPairs s w₀ used row q count number w' r
+    pub pour_stop : {c : Number} → r ≡ Err c → MergesPairs row q count number s w₀ used w' r
     pour_stop e = record {
-      same_length = puts.same_length ∙ k.same;
       says = λ new n st sorted small x y z j m h hx pl room.
           subst (λ t. SaysRow s (j + 4 * length (each pair_bytes new)) x z w' t (merge_metadata number m new)) (sym e)
           (left_stop find puts more small (k.rest x y z j m new h hx pl n st sorted small room) e);
     }
 
 pub pour_done : {s w₀ w : Bytes} {used row q count number from end place left : ℕ} → Pouring s w₀ w used row q count number from end place left → left ≤ 0
-    → MergesPairs s w₀ used row q count number w (Ok end)
+    → MergesPairs row q count number s w₀ used w (Ok end)
 unfolding merge_metadata
 pour_done {s} {w₀} {w} {number = number} {from = from} {end = end} {place = place} {left = left} k none = record {
-  same_length = k.same;
   says = λ new n st sorted small x y z j m h hx pl room. go (k.rest x y z j m new h hx pl n st sorted small room);
 }
   where

@@ -27,12 +27,11 @@ Front s w row q number g =
 
 module _ {s w : Bytes} {row q there : ℕ} (used : ℕ) (number : Number) (e : there ≡ three w row) where
   -- where the pair goes before the first
-  module _ {w' : Bytes} {u : ℕ} (ins : InsertsPlace w used row q w' u) where
-    inserted : Front s w row q (number_of number) (λ m p. done (p ∷ m)) → PutsPair s w used row q (number_of number) w' (Ok u)
+  module _ {w' : Bytes} {u : ℕ} (ins : InsertsPlace row q w used w' u) where
+    inserted : Front s w row q (number_of number) (λ m p. done (p ∷ m)) → PutsPair row q (number_of number) s w used w' (Ok u)
     inserted goes = record {
-      same_length = ins.same_length;
       says = λ x y z k m p h hx pl nb st small room.
-          let (i, j) = ins.inserts x (y ++ z) (held_as h refl) hx (omega (arith, room, held_length h, places_fit pl, pair_long p)) in
+          let (i, j) = ins x (y ++ z) (held_as h refl) hx (omega (arith, room, held_length h, places_fit pl, pair_long p)) in
           record {
             value = p ∷ m;
             spelt = u24 q ++ y;
@@ -45,7 +44,7 @@ module _ {s w : Bytes} {row q there : ℕ} (used : ℕ) (number : Number) (e : t
     }
 
     -- there is none
-    pub put_last : there ≡ no_place → PutsPair s w used row q (number_of number) w' (Ok u)
+    pub put_last : there ≡ no_place → PutsPair row q (number_of number) s w used w' (Ok u)
     unfolding merge_pair
     put_last h = inserted go
       where
@@ -54,7 +53,7 @@ module _ {s w : Bytes} {row q there : ℕ} (used : ℕ) (number : Number) (e : t
         go ps m p st (one_place {p = a} {ps = bs} i v r) nb u = absurd (omega (arith, i, h, e, front_place a bs i st))
 
     -- the first is above it
-    pub put_before : {b : Bool} → KeyBelow s q there b → b ≡ true → PutsPair s w used row q (number_of number) w' (Ok u)
+    pub put_before : {b : Bool} → KeyBelow s q there b → b ≡ true → PutsPair row q (number_of number) s w used w' (Ok u)
     unfolding merge_pair
     put_before {b} v h = inserted go
       where
@@ -72,10 +71,9 @@ module _ {s w : Bytes} {row q there : ℕ} (used : ℕ) (number : Number) (e : t
         merge_pair_there (number_of number) x xs p nb (sym (v p x u t2) ∙ h) ∙ ap (λ d. need d (number_of number) (x ∷ xs)) (sym (g x p t2 u))
 
     -- it has the value
-    pub put_there : c ≡ true → PutsPair s w used row q (number_of number) w (Ok used)
+    pub put_there : c ≡ true → PutsPair row q (number_of number) s w used w (Ok used)
     unfolding need
     put_there i = record {
-      same_length = refl;
       says = λ x y z k m p h hx pl nb st small room. record {
         value = m;
         spelt = y;
@@ -88,9 +86,8 @@ module _ {s w : Bytes} {row q there : ℕ} (used : ℕ) (number : Number) (e : t
     }
 
     -- it has another
-    pub put_clash : c ≡ false → PutsPair s w used row q (number_of number) w (Err number)
+    pub put_clash : c ≡ false → PutsPair row q (number_of number) s w used w (Err number)
     unfolding need
     put_clash i = record {
-      same_length = refl;
       says = λ x y z k m p h hx pl nb st small room. by_value pl.places m p (subst (Stands w row) pl.bytes (held_stands h hx)) pl.refer nb st ∙ ap (λ d. need d (number_of number) m) i;
     }

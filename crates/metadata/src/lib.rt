@@ -11,12 +11,13 @@ ghost use Rattle.model.specs.Sheet.{part, text_bytes, pair_bytes, head_bytes};
 ghost use Rattle.buffer.specs.Refusals.{number_of};
 ghost use Rattle.walk.specs.Stands.{Stands};
 ghost use Rattle.table.specs.Table.{Places, SpellField};
+ghost use Rattle.table.specs.Edited.{Edits, Merges};
 ghost use Rattle.metadata.specs.Pairs.{Spot};
 ghost use Rattle.metadata.specs.Merges.{PutsPair, MergesPairs, Marks, OpensMetadata, MergesMetadata};
 
 use buffer::Number;
 use datatype::metadata::{of_head, same_stretch, same_text};
-use table::PlaceRow;
+use table::Table;
 use walk::Elements;
 
 // Whether the bytes from one place to another are below those between two other places.
@@ -46,32 +47,28 @@ fn same_value(s: &[u8], a: usize, b: usize) -> bool
 }
 
 // Where the key of a pair of the train belongs in a row of pairs.
-fn find_key(s: &[u8], w: &[u8], row: usize, q: usize) -> usize
-    ensures { (k : ℕ) (y : Bytes) (m : Metadata) (p : Bytes × Bytes) → Places s.now pair_bytes k y m → Stands w.now row y → Stands s.now q (pair_bytes p) → Spot s.now row y m p.0 result }
+fn find_key(table: &Table<'_>, row: usize, q: usize) -> usize
+    ensures { (k : ℕ) (y : Bytes) (m : Metadata) (p : Bytes × Bytes) → Places table.now.train.now pair_bytes k y m → Stands table.now.w.now row y → Stands table.now.train.now q (pair_bytes p) → Spot table.now.train.now row y m p.0 result }
 {
+    let train = table.train;
     row + 3
-        * PlaceRow::new(w, row)
-            .take_while(|there| key_below(s, *there, q))
+        * table
+            .places(row)
+            .take_while(|there| key_below(train, *there, q))
             .count()
 }
 
 // A pair of the train into the row of pairs that begins where its key belongs: before the first, or its key is that of the first.
-fn put_pair(
-    s: &[u8],
-    w: &mut [u8],
-    used: usize,
-    at: usize,
-    q: usize,
-    clash: Number,
-) -> Result<usize, Number>
-    ensures { PutsPair s.now w.old used at q (number_of clash) w.new result }
+fn put_pair(table: &mut Table<'_>, at: usize, q: usize, clash: Number) -> Result<(), Number>
+    ensures { Merges (PutsPair at q (number_of clash)) table.old table.new result }
 {
-    let there = table::three(w, at);
-    if there == table::NO_PLACE || key_below(s, q, there) {
-        return Ok(table::insert_place(w, used, at, q));
+    let there = table.three(at);
+    if there == table::NO_PLACE || key_below(table.train, q, there) {
+        table.insert_place(at, q);
+        return Ok(());
     }
-    if same_value(s, there, q) {
-        return Ok(used);
+    if same_value(table.train, there, q) {
+        return Ok(());
     }
     Err(clash)
 }
@@ -79,28 +76,22 @@ fn put_pair(
 // Pairs of the train, one behind the other, into a row of pairs: the loop over `from.metadata()`. They come in the order of their
 // keys, so each belongs behind the one before it, where the search for it begins.
 pub fn merge_pairs(
-    s: &[u8],
-    w: &mut [u8],
-    used: usize,
+    table: &mut Table<'_>,
     at: usize,
     pairs: Elements,
     clash: Number,
-) -> Result<usize, Number>
-    ensures { MergesPairs s.now w.old used at pairs.at pairs.count (number_of clash) w.new result }
+) -> Result<(), Number>
+    ensures { Merges (MergesPairs at pairs.at pairs.count (number_of clash)) table.old table.new result }
 {
+    let train = table.train;
     let mut from = at;
     let mut place = pairs.at;
-    let mut end = used;
     for _ in 0..pairs.count {
-        from = find_key(s, w, from, place);
-        let merged = put_pair(s, w, end, from, place, clash);
-        let Ok(next) = merged else {
-            return merged;
-        };
-        end = next;
-        place = walk::skip_text(s, walk::skip_text(s, place));
+        from = find_key(table, from, place);
+        put_pair(table, from, place, clash)?;
+        place = walk::skip_text(train, walk::skip_text(train, place));
     }
-    Ok(end)
+    Ok(())
 }
 
 // Where the metadata of a field of the train begins: behind its name.
@@ -129,50 +120,45 @@ fn same_metadata(s: &[u8], a: usize, b: usize) -> bool
 }
 
 // Whether an entry has the metadata of its first occurrence still, and a field of the train has the same.
-fn has_metadata(s: &[u8], w: &[u8], at: usize, q: usize) -> bool
-    ensures { (l k : ℕ) (y : Bytes) (f : Field l) (h : Head) → SpellField l s.now k y f → Stands w.now at y → Stands s.now q (head_bytes h) → result ≡ true → f.head.metadata ≡ h.metadata }
+fn has_metadata(table: &Table<'_>, at: usize, q: usize) -> bool
+    ensures { (l k : ℕ) (y : Bytes) (f : Field l) (h : Head) → SpellField l table.now.train.now k y f → Stands table.now.w.now at y → Stands table.now.train.now q (head_bytes h) → result ≡ true → f.head.metadata ≡ h.metadata }
 {
-    walk::byte(w, at) / 4 != 1 && same_metadata(s, table::three(w, walk::ahead(w, at, 1)), q)
+    table.byte(at) / 4 != 1 && same_metadata(table.train, table.place_at(at), q)
 }
 
 // Makes an entry one with places of its pairs: the flag, and a row of no places behind the place of the first occurrence.
-fn mark_opened(w: &mut [u8], used: usize, at: usize, flags: usize) -> usize
-    ensures { Marks w.old used at flags w.new result }
+fn mark_opened(table: &mut Table<'_>, at: usize, flags: usize)
+    ensures { Edits (λ _. Marks at flags) table.old table.new }
 {
-    table::set_byte(w, used, at, flags % 4 + 4);
-    table::insert_place(w, used, walk::ahead(w, at, 4), table::NO_PLACE)
+    table.set_byte(at, flags % 4 + 4);
+    let row = table.ahead(at, 4);
+    table.insert_place(row, table::NO_PLACE);
 }
 
-// Gives an entry places of its pairs, those of its first occurrence, if it has none.
-fn open_metadata(s: &[u8], w: &mut [u8], used: usize, at: usize) -> usize
-    ensures { OpensMetadata s.now w.old used at w.new result }
+// Gives an entry places of its pairs, those of its first occurrence, if it has none. Its own pairs do not clash.
+fn open_metadata(table: &mut Table<'_>, at: usize)
+    ensures { Edits (OpensMetadata at) table.old table.new }
 {
-    let flags = walk::byte(w, at);
+    let flags = table.byte(at);
     if flags / 4 == 1 {
-        return used;
+        return;
     }
-    let own = of_head(s, table::three(w, walk::ahead(w, at, 1)));
-    let end = mark_opened(w, used, at, flags);
-    let row = walk::ahead(w, at, 4);
-    merge_pairs(s, w, end, row, own, Number::FieldMetadataClash).unwrap_or(used)
+    let own = of_head(table.train, table.place_at(at));
+    mark_opened(table, at, flags);
+    let row = table.ahead(at, 4);
+    let _ = merge_pairs(table, row, own, Number::FieldMetadataClash);
 }
 
 // `Field::try_merge`, the metadata: an entry of the table, and a field of the train that comes in. What has no metadata, or the same as an
 // entry that nothing was merged into, changes nothing.
-pub fn merge_metadata(
-    s: &[u8],
-    w: &mut [u8],
-    used: usize,
-    at: usize,
-    q: usize,
-) -> Result<usize, Number>
-    ensures { MergesMetadata s.now w.old used at q w.new result }
+pub fn merge_metadata(table: &mut Table<'_>, at: usize, q: usize) -> Result<(), Number>
+    ensures { Merges (MergesMetadata at q) table.old table.new result }
 {
-    let new = of_head(s, q);
-    if new.count == 0 || has_metadata(s, w, at, q) {
-        return Ok(used);
+    let new = of_head(table.train, q);
+    if new.count == 0 || has_metadata(table, at, q) {
+        return Ok(());
     }
-    let end = open_metadata(s, w, used, at);
-    let row = walk::ahead(w, at, 4);
-    merge_pairs(s, w, end, row, new, Number::FieldMetadataClash)
+    open_metadata(table, at);
+    let row = table.ahead(at, 4);
+    merge_pairs(table, row, new, Number::FieldMetadataClash)
 }

@@ -15,14 +15,11 @@ use Rattle.walk.proofs.Parts.{Ahead}
 use Rattle.table.specs.Table.{u24, no_place, no_entry, raw, open_struct, open_list, open_union, places_bytes, Refer, none_left, one_place, SpellMetadata, raw_pairs, pair_places, SpellFieldOver, spell_raw, spell_struct, spell_list, spell_union, SpellType, SpellRow}
 use Rattle.std.proofs.Common.{Option}
 use Rattle.table.specs.Entries.{SkipsEntries, NoEntry, StepsOver, GivesEntry}
+use Rattle.table.specs.Look.{SkipsPlaces}
 use Rattle.table.specs.declared.EntryRow.{EntryRow}
 use Rattle.table.proofs.Numbers.{length_u24}
 
 -- Rows of places
-
--- what `skip_places` ensures
-abbrev pub SkipsPlaces : Bytes → ℕ → ℕ → Type 0
-SkipsPlaces w first r = (ps : List ℕ) → Every (λ p. p < no_place) ps → Skips w first (places_bytes ps) r
 
 pub refer_small : {A : Type 0} {s : Bytes} {write : A → Bytes} {ps : List ℕ} {xs : List A} → Refer s write ps xs → Every (λ p. p < no_place) ps
 refer_small none_left = tt
@@ -32,13 +29,13 @@ refer_small (one_place h st r) = (h, refer_small r)
 
 -- what `skip_metadata` ensures
 abbrev SkipsMetadata : Bytes → ℕ → ℕ → ℕ → Type 0
-SkipsMetadata w place flags r = ((flags / 4 ≡ 1 → ⊥) → r ≡ place) × ((ps : List ℕ) → flags / 4 ≡ 1 → Every (λ p. p < no_place) ps → Skips w place (places_bytes ps) r)
+SkipsMetadata w place flags r = ((flags / 4 ≡ 1 → ⊥) → r ≡ place) × (flags / 4 ≡ 1 → SkipsPlaces w place r)
 
 metadata_skips : {w s : Bytes} {place r k : ℕ} (flags : ℕ) {y : Bytes} {own m : Metadata} → SkipsMetadata w place flags r → SpellMetadata s k (eqb (flags / 4) 1) y own m → Skips w place y r
 metadata_skips {w} {s} {place} {r} flags f (raw_pairs o e i j) =
     subst (λ y. Skips w place y r) (sym e) (record { behind = λ st. omega (arith, f.0 (λ h. false≢true (sym o ∙ eq-eqb (flags / 4) 1 h))) })
 metadata_skips {w} {s} {place} {r} flags f (pair_places o p) =
-    subst (λ y. Skips w place y r) (sym p.bytes) (f.1 p.places (eqb-true (flags / 4) 1 o) (refer_small p.refer))
+    subst (λ y. Skips w place y r) (sym p.bytes) (f.1 (eqb-true (flags / 4) 1 o) p.places (refer_small p.refer))
 
 module _ {T : Type 0} {write : T → Bytes} {G : Bool → T → Type 0} {P : T → ℕ → Bytes → T → Type 0} {w s : Bytes} {place k : ℕ} {y : Bytes} {f : FieldOver T} where
   pub head_skips : {flags m r : ℕ} → flags ≡ get_or w place 0 → Ahead w place 4 m → SkipsMetadata w m flags r → (e : SpellFieldOver write G P s k y f)
@@ -115,7 +112,7 @@ module _ {w : Bytes} {place : ℕ} (levels : ℕ) where
 -- an entry without metadata of its own, whose type is raw
 pub plain_entry : {w : Bytes} {place : ℕ} (levels : ℕ) → get_or w place 0 < 4 → get_or w (place + 4) 0 ≡ raw → place + 8 ≤ length w → SkipsEntries w place levels (place + 8)
 plain_entry {w} {place} levels h z i l s k y f j p =
-    let m : SkipsMetadata w (place + 4) (get_or w place 0) (place + 4) = (λ n. refl, λ ps n g. absurd (omega (arith, h, n))) in
+    let m : SkipsMetadata w (place + 4) (get_or w place 0) (place + 4) = (λ n. refl, λ n. absurd (omega (arith, h, n))) in
     let next : place + 4 + 4 ≡ place + 8 = omega arith in
     entry_skips (head_skips refl (omega arith, λ n. refl) m) (λ o r v t q. types_raw levels (omega arith, λ n. sym next) z l s o r v t j q) p
 

@@ -1,5 +1,6 @@
 -- The laws that the proofs of `table`, and of its callers, lean on.
 pub mod Held
+pub mod Edited
 pub mod Says
 pub mod Numbers
 pub mod OfKinds

@@ -16,27 +16,20 @@ use Rattle.walk.proofs.Standing.{byte_stands, stands_behind, skip_ahead}
 use Rattle.walk.proofs.Parts.{Ahead}
 use Rattle.walk.proofs.Descents.{code_stands}
 use Rattle.table.specs.Held.{Held}
-use Rattle.table.specs.Table.{no_entry, raw, open_struct, open_list, u24, three, spell_raw, spell_struct, spell_list, spell_union}
+use Rattle.table.specs.Table.{no_entry, raw, open_struct, open_list, u24, spell_raw, spell_struct, spell_list, spell_union}
 use Rattle.table.proofs.Numbers.{length_u24}
 use Rattle.table.proofs.Held.{held_length, held_stands, held_as}
-use Rattle.table.specs.Becomes.{Incoming}
-use Rattle.table.specs.Opened.{NewEntry, OpensList}
+use Rattle.table.specs.Look.{NamesPlace}
+use Rattle.table.specs.Edits.{SetsByte, Inserts}
+use Rattle.table.specs.Opened.{InsertsEntry, OpensList}
 use Rattle.table.proofs.Types.{raw_there}
 
 pub byte_set : {w' x z : Bytes} {used n : ℕ} → n < 256 → Held w' used x (n % 256 ∷ []) z → Held w' used x (n ∷ []) z
 byte_set {w'} {x} {z} {used} h k = subst (λ v. Held w' used x (v ∷ []) z) (omega (arith, h)) k
 
--- what `set_byte` ensures
-abbrev pub SetsByte : (w : Bytes) (used place n : ℕ) (w' : Bytes) → Type 0
-SetsByte w used place n w' = (x z : Bytes) (b : ℕ) → Held w used x (b ∷ []) z → place ≡ length x → n < 256 → Held w' used x (n ∷ []) z
-
--- what `insert` ensures
-abbrev pub Inserts : (w : Bytes) (used place : ℕ) (v w' : Bytes) (r : ℕ) → Type 0
-Inserts w used place v w' r = (x z : Bytes) → Held w used x [] z → place ≡ length x → used + length v ≤ length w → (r ≡ used + length v) × Held w' r x v z
-
 module _ {w : Bytes} (w₁ : Bytes) {used place : ℕ} (s : length w₁ ≡ length w) where
   -- the kind of a raw type is set, and the table is seen from behind its place
-  pub kind_set : (n p : ℕ) {x z : Bytes} → SetsByte w used place n w₁ → n < 256 → place ≡ length x → Held w used x (raw ∷ u24 p) z → Held w₁ used (x ++ (n ∷ u24 p)) [] z
+  pub kind_set : (n p : ℕ) {x z : Bytes} → SetsByte place n w used w₁ → n < 256 → place ≡ length x → Held w used x (raw ∷ u24 p) z → Held w₁ used (x ++ (n ∷ u24 p)) [] z
   kind_set n p {x} {z} f h e k =
       held_as (f x (u24 p ++ z) raw (held_as k refl) e h) (sym (append_assoc x (n ∷ u24 p) z))
 
@@ -46,7 +39,7 @@ module _ {w : Bytes} (w₁ : Bytes) {used place : ℕ} (s : length w₁ ≡ leng
       let l = held_length k in
       omega (arith, a.1 (omega (arith, l, long, k.fits, s, e)), e, length-append x (n ∷ u24 p), length_u24 p)
 
-  pub struct_opened : {w₂ x z : Bytes} {inner r : ℕ} (p : ℕ) → SetsByte w used place open_struct w₁ → Ahead w₁ place 4 inner → Inserts w₁ used inner (no_entry ∷ []) w₂ r
+  pub struct_opened : {w₂ x z : Bytes} {inner r : ℕ} (p : ℕ) → SetsByte place open_struct w used w₁ → Ahead w₁ place 4 inner → Inserts inner (no_entry ∷ []) w₁ used w₂ r
       → Held w used x (raw ∷ u24 p) z → place ≡ length x → used + 1 ≤ length w → Held w₂ r x (open_struct ∷ (u24 p ++ (no_entry ∷ []))) z
   struct_opened {x = x} {z = z} p f a i k e room =
       held_as (i (x ++ (open_struct ∷ u24 p)) z (kind_set open_struct p f (omega arith) e k) (inner_is open_struct p e k (omega (arith, length_u24 p)) a) (omega (arith, room, s))).1
@@ -112,14 +105,9 @@ pub field_long : (l : ℕ) (f : Field l) → 2 ≤ length (field_bytes (type_byt
 unfolding field_bytes front_bytes head_bytes
 field_long l f = omega (arith, length-append (front_bytes f.head) (dict_id_bytes f.head.dict_id), length-append (head_bytes f.head) (type_bytes l f.data_type), type_long l f.data_type)
 
--- what `insert_entry` ensures
-abbrev pub InsertsEntry : (s w : Bytes) (used inner q : ℕ) (w' : Bytes) (r : ℕ) → Type 0
-InsertsEntry s w used inner q w' r =
-    (l : ℕ) (g : Field l) (x z : Bytes) → Incoming l s q g → Held w used x [] z → inner ≡ length x → used + 8 ≤ length w → NewEntry l s g w' r x z
-
 module _ {s w : Bytes} {used place : ℕ} where
   -- it is open already
-  pub list_open : get_or w place 0 ≡ open_list → OpensList s w used place w used
+  pub list_open : get_or w place 0 ≡ open_list → OpensList place s w used w used
   list_open h l first code c small x y z k a held p (spell_raw i b r v, d) room =
       absurd (omega (arith, h, byte_stands (subst (Stands w place) b (held_stands held p))))
   list_open h l first code c small x y z k a held p (spell_struct i m ys b q g d u r v, d2) room = absurd (not_list code c (inl (sym d2 ∙ d)))
@@ -134,17 +122,17 @@ module _ {s w : Bytes} {used place : ℕ} where
   }
 
   -- it is opened
-  pub list_opened : {w₁ w₂ : Bytes} {m own child inner r : ℕ} → length w₁ ≡ length w → (get_or w place 0 ≡ open_list → ⊥) → Ahead w place 1 m → own ≡ three w m → Ahead s own 1 child → Ahead w place 4 inner
-      → SetsByte w used place open_list w₁ → InsertsEntry s w₁ used inner child w₂ r → OpensList s w used place w₂ r
-  list_opened size never a o b f g i l first code c small x y z k t held p (spell_struct j m ys bs q h d u rw v, d2) room = absurd (not_list code c (inl (sym d2 ∙ d)))
-  list_opened size never a o b f g i l first code c small x y z k t held p (spell_union j m ys bs q h d u rw v r, d2) room = absurd (not_list code c (inr (sym d2 ∙ d)))
-  list_opened size never a o b f g i l first code c small x y z k t held p (spell_list j m ys q bs h d u r v pl w3, d2) room =
+  pub list_opened : {w₁ w₂ : Bytes} {own child inner r : ℕ} → length w₁ ≡ length w → (get_or w place 0 ≡ open_list → ⊥) → NamesPlace w place own → Ahead s own 1 child → Ahead w place 4 inner
+      → SetsByte place open_list w used w₁ → InsertsEntry inner child s w₁ used w₂ r → OpensList place s w used w₂ r
+  list_opened size never o b f g i l first code c small x y z k t held p (spell_struct j m ys bs q h d u rw v, d2) room = absurd (not_list code c (inl (sym d2 ∙ d)))
+  list_opened size never o b f g i l first code c small x y z k t held p (spell_union j m ys bs q h d u rw v r, d2) room = absurd (not_list code c (inr (sym d2 ∙ d)))
+  list_opened size never o b f g i l first code c small x y z k t held p (spell_list j m ys q bs h d u r v pl w3, d2) room =
       absurd (never (byte_stands (subst (Stands w place) bs (held_stands held p))))
-  list_opened {w₁} {w₂} {m} {own} {child} {inner} {r} size never a o b f g i l first code c small x y z k t held p (spell_raw j bs ra v, d) room =
+  list_opened {w₁} {w₂} {own} {child} {inner} {r} size never o b f g i l first code c small x y z k t held p (spell_raw j bs ra v, d) room =
       let st = ra.stands in
       let q = only_child l ra.ordered t (subst (λ n. (n ≡ List') ⊎ (n ≡ LargeList)) (sym d) c) ra.well_formed in
       let h : Held w used x (raw ∷ u24 j) z = subst (λ y. Held w used x y z) bs held in
-      let there : own ≡ j = o ∙ raw_there a j ra.small (held_stands h p) in
+      let there : own ≡ j = raw_there o j ra.small (held_stands h p) in
       let st2 : Stands s own (t.code ∷ field_bytes (type_bytes l) q.child) = subst (λ n. Stands s n (t.code ∷ field_bytes (type_bytes l) q.child)) (sym there) (subst (Stands s j) q.bytes st) in
       let st3 = stands_behind (skip_ahead (t.code ∷ []) refl b.1) st2 in
       let long = field_long l q.child in

@@ -1,7 +1,7 @@
 -- One after the other into a part of the table: the loop of a merge over parts of the train that stand one behind the other.
 use Prim.Native.Nat.{ℕ, ◌+◌, ◌*◌, ◌≤◌, ◌<◌}
 use native.Mathlib.Omega.{arith}
-use mathlib.Core.Path.{◌≡◌, sym, subst, ◌∙◌}
+use mathlib.Core.Path.{◌≡◌, sym, subst}
 use mathlib.Core.List.{List, [], ◌∷◌}
 use lib.ListN.{length, length-append}
 use Rattle.model.specs.Bytes.{Bytes, Every}
@@ -34,8 +34,7 @@ module _ {A B : ℕ → Type 0} (put : (l : ℕ) → A l → B l → model.Merge
         → Becomes (P l) (Q l) w used row (4 * length (each (write l) bs)) w' r λ a. pour (put l) a bs
 
     -- at each turn P spells what there is; once what is left is merged in, the buffer and the answer are as the goal says
-    pub record Pouring (Goal : Bytes → Merged → Type 0) (P : (l k : ℕ) → Bytes → A l → Type 0) (w₀ w : Bytes) (used place left : ℕ) : Type 0 where
-      pub same : length w ≡ length w₀
+    pub record Pouring (Goal : Bytes → Merged → Type 0) (P : (l k : ℕ) → Bytes → A l → Type 0) (w : Bytes) (used place left : ℕ) : Type 0 where
       pub rest : (w' : Bytes) (r : Merged) → Many P w used place left w' r → Goal w' r
 
     -- the first and then the others make all; a clash of the first is that of all
@@ -59,13 +58,13 @@ module _ {A B : ℕ → Type 0} (put : (l : ℕ) → A l → B l → model.Merge
     many_none ends none l [] low small good n st x y z k a h hx p room = record { value = a; spelt = y; room = k; is = pour_none (put l) a; spells = ends l k y a p; fits = omega arith; held = h }
     many_none ends none l (b ∷ bs) low small good n st x y z k a h hx p room = absurd (omega (arith, none, n))
 
-    module _ {Goal : Bytes → Merged → Type 0} {P : (l k : ℕ) → Bytes → A l → Type 0} {w₀ w : Bytes} {used place left : ℕ} (t : Pouring Goal P w₀ w used place left) where
-      module _ (R : (l k : ℕ) → Bytes → A l → Type 0) {w' : Bytes} {r : Merged} (more : 0 < left) (same : length w' ≡ length w) (one : One P R w used place w' r) where
-        pub pouring_again : {u next left' : ℕ} → r ≡ Ok u → ((l : ℕ) (b : B l) → l ≤ levels → W l b → Skips s place (write l b) next) → left ≡ left' + 1 → Pouring Goal R w₀ w' u next left'
-        pouring_again e skips less = record { same = same ∙ t.same; rest = λ v q m. t.rest v q (many_on R w' more v q same (subst (One P R w used place w') e one) skips less m) }
+    module _ {Goal : Bytes → Merged → Type 0} {P : (l k : ℕ) → Bytes → A l → Type 0} {w : Bytes} {used place left : ℕ} (t : Pouring Goal P w used place left) where
+      module _ (R : (l k : ℕ) → Bytes → A l → Type 0) {w' : Bytes} {r : Merged} (more : 0 < left) (one : One P R w used place w' r) where
+        pub pouring_again : {u next left' : ℕ} → length w' ≡ length w → r ≡ Ok u → ((l : ℕ) (b : B l) → l ≤ levels → W l b → Skips s place (write l b) next) → left ≡ left' + 1 → Pouring Goal R w' u next left'
+        pouring_again same e skips less = record { rest = λ v q m. t.rest v q (many_on R w' more v q same (subst (One P R w used place w') e one) skips less m) }
 
-        pub pouring_stop : {c : Number} → r ≡ Err c → (length w' ≡ length w₀) × Goal w' r
-        pouring_stop {c} e = (same ∙ t.same, subst (Goal w') (sym e) (t.rest w' (Err c) (many_stop R w' more c (subst (One P R w used place w') e one))))
+        pub pouring_stop : {c : Number} → r ≡ Err c → Goal w' r
+        pouring_stop {c} e = subst (Goal w') (sym e) (t.rest w' (Err c) (many_stop R w' more c (subst (One P R w used place w') e one)))
 
-      pub pouring_done : ((l k : ℕ) (y : Bytes) (a : A l) → P l k y a → Q l k y a) → left ≤ 0 → (length w ≡ length w₀) × Goal w (Ok used)
-      pouring_done ends none = (t.same, t.rest w (Ok used) (many_none ends none))
+      pub pouring_done : ((l k : ℕ) (y : Bytes) (a : A l) → P l k y a → Q l k y a) → left ≤ 0 → Goal w (Ok used)
+      pouring_done ends none = t.rest w (Ok used) (many_none ends none)

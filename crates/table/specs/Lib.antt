@@ -6,6 +6,7 @@ pub mod Says
 pub mod Becomes
 pub mod Opened
 pub mod Edits
+pub mod Edited
 pub mod Pours
 pub mod Row
 pub mod Entries

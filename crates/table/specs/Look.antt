@@ -1,10 +1,22 @@
--- Looking up a name among the entries of a row.
-use Rattle.std.specs.Prelude.{ℕ, ◌+◌, ◌≤◌, ◌≡◌, List, [], ◌∷◌, ◌++◌, Bool, true, false, length, Result, Ok, Err}
+-- Reading the table: the place in an entry, and looking up a name among the entries of a row.
+use Rattle.std.specs.Prelude.{ℕ, ◌+◌, ◌≤◌, ◌<◌, ◌≡◌, List, [], ◌∷◌, ◌++◌, Bool, true, false, length, Result, Ok, Err}
 use Rattle.model.specs.Bytes.{Bytes, Every, same_bytes}
 use Rattle.model.specs.Tree.{Field}
 use Rattle.model.specs.Sheet.{part, text_bytes}
-use Rattle.walk.specs.Stands.{Stands}
-use Rattle.table.specs.Table.{no_entry, Rows, SpellField}
+use Rattle.walk.specs.Stands.{Stands, Skips}
+use Rattle.table.specs.Table.{no_place, no_entry, u24, places_bytes, Rows, SpellField}
+
+-- the place of the train that stands behind one byte, the flags of an entry or the kind of a type
+abbrev pub NamesPlace : (w : Bytes) (place r : ℕ) → Type 0
+NamesPlace w place r = (c x : ℕ) (ys : Bytes) → x < no_place → Stands w place (c ∷ (u24 x ++ ys)) → r ≡ x
+
+-- behind a row of places and its end
+abbrev pub SkipsPlaces : (w : Bytes) (place r : ℕ) → Type 0
+SkipsPlaces w place r = (ps : List ℕ) → Every (λ p. p < no_place) ps → Skips w place (places_bytes ps) r
+
+-- behind the flags, the place and the metadata of an entry
+abbrev pub SkipsHead : (w : Bytes) (place r : ℕ) → Type 0
+SkipsHead w place r = (l : ℕ) (s : Bytes) (k : ℕ) (y : Bytes) (f : Field l) (e : SpellField l s k y f) → Skips w place (e.flags ∷ (u24 e.first ++ e.metadata_bytes)) r
 
 -- whether the entry that stands at a place has a name
 abbrev pub NamesEntry : (s w : Bytes) (place : ℕ) (name : Bytes) (r : Bool) → Type 0

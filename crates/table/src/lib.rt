@@ -9,12 +9,12 @@ ghost use Rattle.model.specs.Tree.{Head, DataType, Field};
 ghost use Rattle.model.specs.Sheet.{part, text_bytes, head_bytes};
 ghost use Rattle.buffer.specs.Buffer.{pasted};
 ghost use Rattle.walk.specs.Stands.{Stands, Skips};
-ghost use Rattle.table.specs.Held.{Held};
-ghost use Rattle.table.specs.Table.{three, kind_of, u24, no_place, no_entry, raw, open_struct, places_bytes, SpellField, SpellType, SpellRow};
-ghost use Rattle.table.specs.Look.{NamesEntry, Cut, Finds};
-ghost use Rattle.table.specs.Becomes.{Incoming};
-ghost use Rattle.table.specs.Opened.{NewEntry, OpensList};
-ghost use Rattle.table.specs.Edits.{InsertsPlace};
+ghost use Rattle.table.specs.Table.{three, kind_of, u24, no_place, no_entry, places_bytes, SpellField, SpellType, SpellRow};
+ghost use Rattle.table.specs.Look.{NamesPlace, SkipsPlaces, SkipsHead, NamesEntry, Cut, Finds};
+ghost use Rattle.table.specs.Entries.{SkipsEntries};
+ghost use Rattle.table.specs.Opened.{InsertsEntry, OpensRow, OpensList};
+ghost use Rattle.table.specs.Edits.{Overwrites, SetsByte, TakesType, Inserts, InsertsPlace};
+ghost use Rattle.table.specs.Edited.{Rewrites, Edits};
 
 use datatype::metadata::{has_name, name_of};
 
@@ -100,7 +100,7 @@ impl Iterator for PlaceRow<'_> {
 
 // A row of places and its end.
 pub fn skip_places(w: &[u8], at: usize) -> usize
-    ensures { (ps : List ℕ) → Every (λ p. p < no_place) ps → Skips w.now at (places_bytes ps) result }
+    ensures { SkipsPlaces w.now at result }
 {
     let count = PlaceRow::new(w, at).count();
     walk::ahead(w, at, 3 * count + 3)
@@ -108,7 +108,7 @@ pub fn skip_places(w: &[u8], at: usize) -> usize
 
 // The places of the pairs of an entry's metadata, if it has metadata of its own.
 fn skip_metadata(w: &[u8], at: usize, flags: usize) -> usize
-    ensures { ((flags / 4 ≡ 1 → ⊥) → result ≡ at) × ((ps : List ℕ) → flags / 4 ≡ 1 → Every (λ p. p < no_place) ps → Skips w.now at (places_bytes ps) result) }
+    ensures { ((flags / 4 ≡ 1 → ⊥) → result ≡ at) × (flags / 4 ≡ 1 → SkipsPlaces w.now at result) }
 {
     if flags / 4 == 1 {
         return skip_places(w, at);
@@ -118,7 +118,7 @@ fn skip_metadata(w: &[u8], at: usize, flags: usize) -> usize
 
 // Where the type of an entry begins.
 pub fn skip_head(w: &[u8], at: usize) -> usize
-    ensures { (l : ℕ) (s : Bytes) (k : ℕ) (y : Bytes) (f : Field l) (e : SpellField l s k y f) → Skips w.now at (e.flags ∷ (u24 e.first ++ e.metadata_bytes)) result }
+    ensures { SkipsHead w.now at result }
 {
     let flags = walk::byte(w, at);
     skip_metadata(w, walk::ahead(w, at, 4), flags)
@@ -127,7 +127,7 @@ pub fn skip_head(w: &[u8], at: usize) -> usize
 // An entry of at most so many levels.
 #[cycle(skipping)]
 pub fn skip_entry(w: &[u8], at: usize, levels: usize) -> usize
-    ensures { (l : ℕ) (s : Bytes) (k : ℕ) (y : Bytes) (f : Field l) → l ≤ levels → SpellField l s k y f → Skips w.now at y result }
+    ensures { SkipsEntries w.now at levels result }
 {
     skip_type(w, skip_head(w, at), levels)
 }
@@ -171,7 +171,7 @@ pub fn skip_row(w: &[u8], at: usize, levels: usize) -> usize
 // An entry of at most so many levels, as `skip_entry` has it. Most entries have no metadata of their own and a type in which nothing was
 // merged: eight bytes.
 pub fn next_entry(w: &[u8], at: usize, levels: usize) -> usize
-    ensures { (l : ℕ) (s : Bytes) (k : ℕ) (y : Bytes) (f : Field l) → l ≤ levels → SpellField l s k y f → Skips w.now at y result }
+    ensures { SkipsEntries w.now at levels result }
 {
     if w.len() <= at || w.len() - at < 8 || 4 <= w[at] || w[at + 4] != 0 {
         return skip_entry(w, at, levels);
@@ -259,46 +259,183 @@ fn scan(s: &[u8], w: &[u8], row: usize, name: &[u8], levels: usize) -> Result<us
     entries.find(named).ok_or(entries.at)
 }
 
-// The look-up of the merge: `SchemaBuilder::try_merge` looks for the first field of a name; no two entries of a row have one, so any is the
-// first. Names that come in the order of the row are found at the hint, the place behind the entry that was found last. It gives the entry's place,
-// or, as `binary_search` does, the one where such an entry goes: the row's end.
-pub fn find(
-    s: &[u8],
-    w: &[u8],
-    row: usize,
-    hint: usize,
-    q: usize,
-    levels: usize,
-) -> Result<usize, usize>
-    ensures { (l k : ℕ) (y : Bytes) (fs : List (Field l)) (g : Head) → l ≤ levels → SpellRow l s.now k y fs → Stands w.now row y → Stands s.now q (head_bytes g) → Cut l s.now row k y fs hint → Finds l s.now row k y fs g.name result }
-{
-    let name = name_of(s, q);
-    if is_named(s, w, hint, name) {
-        return Ok(hint);
-    }
-    scan(s, w, row, name, levels)
+// The schema merged so far: the first `used` bytes of the work buffer, which name places of the train.
+#[derive(Drop)]
+pub struct Table<'a> {
+    pub train: &'a [u8],
+    w: &'a mut [u8],
+    used: usize,
 }
 
-// Writes bytes over as many that stand at a place.
-pub fn overwrite(w: &mut [u8], used: usize, at: usize, v: &[u8])
-    ensures { (length w.new ≡ length w.old) × ((x y z : Bytes) → Held w.old used x y z → at ≡ length x → length y ≡ length v.now → Held w.new used x v.now z) }
-{
-    if w.len() < at || w.len() - at < v.len() {
-        return;
+impl<'a> Table<'a> {
+    // No bytes yet.
+    pub fn new(train: &'a [u8], w: &'a mut [u8]) -> Self
+        ensures same_reference { result.w.ghost_name ≡ w.entry.ghost_name }
+        ensures empty { (result.train.now ≡ train.now) × (result.w.now ≡ w.old) × (result.used ≡ 0) }
+    {
+        Table { train, w, used: 0 }
     }
-    w[at..at + v.len()].copy_from_slice(v);
 }
 
-// Puts bytes in at a place: what is in use behind it moves on. Gives how many bytes are in use then.
-pub fn insert(w: &mut [u8], used: usize, at: usize, v: &[u8]) -> usize
-    ensures { (length w.new ≡ length w.old) × ((x z : Bytes) → Held w.old used x [] z → at ≡ length x → used + length v.now ≤ length w.old → (result ≡ used + length v.now) × Held w.new result x v.now z) }
-{
-    if used < at || w.len() < used || w.len() - used < v.len() {
-        return used;
+impl Table<'_> {
+    // A byte of the table. Those past its end are 0.
+    pub fn byte(&self, at: usize) -> usize
+        ensures { (result ≡ get_or self.now.w.now at 0) × (result < 256) }
+    {
+        walk::byte(self.w, at)
     }
-    w.copy_within(at..used, at + v.len());
-    w[at..at + v.len()].copy_from_slice(v);
-    used + v.len()
+
+    // The number of three bytes at a place of the table.
+    pub fn three(&self, at: usize) -> usize
+        ensures { (result ≡ three self.now.w.now at) × (result < 16777216) }
+    {
+        three(self.w, at)
+    }
+
+    // So many bytes on, at most to the buffer's end.
+    pub fn ahead(&self, at: usize, n: usize) -> usize
+        ensures { (result ≤ length self.now.w.now) × (at + n ≤ length self.now.w.now → result ≡ at + n) }
+    {
+        walk::ahead(self.w, at, n)
+    }
+
+    // The kind of the type whose entry stands at a place.
+    pub fn kind_at(&self, at: usize) -> Kind
+        ensures { result ≡ kind_of (get_or self.now.w.now at 0) }
+    {
+        kind_at(self.w, at)
+    }
+
+    // The place of the train that an entry names behind its flags, and a type's behind its kind.
+    pub fn place_at(&self, at: usize) -> usize
+        ensures { NamesPlace self.now.w.now at result }
+    {
+        self.three(self.ahead(at, 1))
+    }
+
+    // The code of the type whose entry stands at a place.
+    pub fn code_at(&self, at: usize) -> usize
+        ensures { (l : ℕ) (first : DataType (suc l)) (k : ℕ) (y : Bytes) (a : DataType (suc l)) → SpellType (suc l) self.now.train.now first k y a → Stands self.now.w.now at y → result ≡ a.code }
+    {
+        walk::byte(self.train, self.place_at(at))
+    }
+
+    // The row of places that begins at a place of the table.
+    pub fn places(&self, at: usize) -> PlaceRow<'_>
+        ensures { (result.w.now ≡ self.now.w.now) × (result.at ≡ at) }
+    {
+        PlaceRow::new(self.w, at)
+    }
+
+    // A row of places and its end.
+    pub fn skip_places(&self, at: usize) -> usize
+        ensures { SkipsPlaces self.now.w.now at result }
+    {
+        skip_places(self.w, at)
+    }
+
+    // Where the type of an entry begins.
+    pub fn skip_head(&self, at: usize) -> usize
+        ensures { SkipsHead self.now.w.now at result }
+    {
+        skip_head(self.w, at)
+    }
+
+    // Behind an entry of at most so many levels.
+    pub fn next_entry(&self, at: usize, levels: usize) -> usize
+        ensures { SkipsEntries self.now.w.now at levels result }
+    {
+        next_entry(self.w, at, levels)
+    }
+
+    // The look-up of the merge: `SchemaBuilder::try_merge` looks for the first field of a name; no two entries of a row have one, so any is the
+    // first. Names that come in the order of the row are found at the hint, the place behind the entry that was found last. It gives the entry's
+    // place, or, as `binary_search` does, the one where such an entry goes: the row's end.
+    pub fn find(&self, row: usize, hint: usize, q: usize, levels: usize) -> Result<usize, usize>
+        ensures { (l k : ℕ) (y : Bytes) (fs : List (Field l)) (g : Head) → l ≤ levels → SpellRow l self.now.train.now k y fs → Stands self.now.w.now row y → Stands self.now.train.now q (head_bytes g) → Cut l self.now.train.now row k y fs hint → Finds l self.now.train.now row k y fs g.name result }
+    {
+        let name = name_of(self.train, q);
+        if is_named(self.train, self.w, hint, name) {
+            return Ok(hint);
+        }
+        scan(self.train, self.w, row, name, levels)
+    }
+
+    // Writes bytes over as many that stand at a place.
+    fn overwrite(&mut self, at: usize, v: &[u8])
+        ensures { Rewrites (λ _. Overwrites at v.now) self.old self.new }
+    {
+        if self.w.len() < at || self.w.len() - at < v.len() {
+            return;
+        }
+        self.w[at..at + v.len()].copy_from_slice(v);
+    }
+
+    // One byte over another.
+    pub fn set_byte(&mut self, at: usize, n: usize)
+        ensures { Rewrites (λ _. SetsByte at n) self.old self.new }
+    {
+        self.overwrite(at, &[(n % 256) as u8]);
+    }
+
+    // "The first Null takes the other's type": a place of the train instead of what stands there.
+    pub fn take_type(&mut self, at: usize, t: usize)
+        ensures { Rewrites (λ _. TakesType at t) self.old self.new }
+    {
+        let [a, b, c] = place_bytes(t);
+        self.overwrite(at, &[Kind::Raw as u8, a, b, c]);
+    }
+
+    // Puts bytes in at a place: what is in use behind it moves on.
+    pub fn insert(&mut self, at: usize, v: &[u8])
+        ensures { Edits (λ _. Inserts at v.now) self.old self.new }
+    {
+        if self.used < at || self.w.len() < self.used || self.w.len() - self.used < v.len() {
+            return;
+        }
+        self.w.copy_within(at..self.used, at + v.len());
+        self.w[at..at + v.len()].copy_from_slice(v);
+        self.used += v.len();
+    }
+
+    // Puts a place of the train in.
+    pub fn insert_place(&mut self, at: usize, place: usize)
+        ensures { Edits (λ _. InsertsPlace at place) self.old self.new }
+    {
+        self.insert(at, &place_bytes(place));
+    }
+
+    // The entry of a field of the train that nothing was merged into yet: nullable and ordered or not, its place, and its type's.
+    pub fn insert_entry(&mut self, at: usize, q: usize)
+        ensures { Edits (InsertsEntry at q) self.old self.new }
+    {
+        let flags = (walk::byte(self.train, q) % 4) as u8;
+        let [a, b, c] = place_bytes(q);
+        let [d, e, f] = place_bytes(walk::skip_head(self.train, q));
+        self.insert(at, &[flags, a, b, c, Kind::Raw as u8, d, e, f]);
+    }
+
+    // A raw struct becomes an open one that has no children yet.
+    pub fn open_struct(&mut self, at: usize)
+        ensures { Edits (λ _. OpensRow at) self.old self.new }
+    {
+        self.set_byte(at, Kind::OpenStruct as usize);
+        let inner = self.ahead(at, 4);
+        self.insert(inner, &[NO_ENTRY as u8]);
+    }
+
+    // A raw list or large list becomes an open one with the entry of its child.
+    pub fn open_list(&mut self, at: usize)
+        ensures { Edits (OpensList at) self.old self.new }
+    {
+        if self.kind_at(at) == Kind::OpenList {
+            return;
+        }
+        let child = walk::ahead(self.train, self.place_at(at), 1);
+        let inner = self.ahead(at, 4);
+        self.set_byte(at, Kind::OpenList as usize);
+        self.insert_entry(inner, child);
+    }
 }
 
 // The three bytes of a place.
@@ -310,31 +447,6 @@ fn place_bytes(place: usize) -> [u8; 3]
     [a, b, c]
 }
 
-// The entry of a field of the train that nothing was merged into yet: nullable and ordered or not, its place, and its type's.
-pub fn insert_entry(s: &[u8], w: &mut [u8], used: usize, at: usize, q: usize) -> usize
-    ensures { (length w.new ≡ length w.old) × ((l : ℕ) (g : Field l) (x z : Bytes) → Incoming l s.now q g → Held w.old used x [] z → at ≡ length x → used + 8 ≤ length w.old → NewEntry l s.now g w.new result x z) }
-{
-    let flags = (walk::byte(s, q) % 4) as u8;
-    let [a, b, c] = place_bytes(q);
-    let [d, e, f] = place_bytes(walk::skip_head(s, q));
-    insert(w, used, at, &[flags, a, b, c, Kind::Raw as u8, d, e, f])
-}
-
-// The code of the type whose entry stands at a place.
-pub fn code_at(s: &[u8], w: &[u8], at: usize) -> usize
-    ensures { (l : ℕ) (first : DataType (suc l)) (k : ℕ) (y : Bytes) (a : DataType (suc l)) → SpellType (suc l) s.now first k y a → Stands w.now at y → result ≡ a.code }
-{
-    walk::byte(s, three(w, walk::ahead(w, at, 1)))
-}
-
-// "The first Null takes the other's type": a place of the train instead of what stands there.
-pub fn take_type(w: &mut [u8], used: usize, at: usize, t: usize)
-    ensures { (length w.new ≡ length w.old) × ((x y z : Bytes) → Held w.old used x y z → at ≡ length x → length y ≡ 4 → Held w.new used x (raw ∷ u24 t) z) }
-{
-    let [a, b, c] = place_bytes(t);
-    overwrite(w, used, at, &[Kind::Raw as u8, a, b, c]);
-}
-
 // The flags of an entry whose type has the first code when a field whose type has the second is merged into it. The order bit is its own, but "a
 // Null column that takes a type takes its order flag too"; as the Rust merges, the two bits are equal there. Nullable it is if it was, or if
 // any of these is so: the incoming field is nullable, either type is Null.
@@ -344,41 +456,4 @@ pub fn flags_of(flags: usize, map: usize, mine: usize, theirs: usize) -> usize
     let ordered = if mine == 0 { map } else { flags };
     let nullable = flags % 2 == 1 || map % 2 == 1 || mine == 0 || theirs == 0;
     flags / 4 * 4 + ordered / 2 % 2 * 2 + usize::from(nullable)
-}
-
-// One byte over another.
-pub fn set_byte(w: &mut [u8], used: usize, at: usize, n: usize)
-    ensures { (length w.new ≡ length w.old) × ((x z : Bytes) (b : ℕ) → Held w.old used x (b ∷ []) z → at ≡ length x → n < 256 → Held w.new used x (n ∷ []) z) }
-{
-    overwrite(w, used, at, &[(n % 256) as u8]);
-}
-
-// A raw struct becomes an open one that has no children yet.
-pub fn open_struct(w: &mut [u8], used: usize, at: usize) -> usize
-    ensures { (length w.new ≡ length w.old) × ((x z : Bytes) (p : ℕ) → Held w.old used x (raw ∷ u24 p) z → at ≡ length x → used + 1 ≤ length w.old → Held w.new result x (open_struct ∷ (u24 p ++ (no_entry ∷ []))) z) }
-{
-    set_byte(w, used, at, Kind::OpenStruct as usize);
-    let inner = walk::ahead(w, at, 4);
-    insert(w, used, inner, &[NO_ENTRY as u8])
-}
-
-// A raw list or large list becomes an open one with the entry of its child.
-pub fn open_list(s: &[u8], w: &mut [u8], used: usize, at: usize) -> usize
-    ensures { (length w.new ≡ length w.old) × OpensList s.now w.old used at w.new result }
-{
-    if kind_at(w, at) == Kind::OpenList {
-        return used;
-    }
-    let own = three(w, walk::ahead(w, at, 1));
-    let child = walk::ahead(s, own, 1);
-    let inner = walk::ahead(w, at, 4);
-    set_byte(w, used, at, Kind::OpenList as usize);
-    insert_entry(s, w, used, inner, child)
-}
-
-// Puts a place of the train in. Gives how many bytes are in use then.
-pub fn insert_place(w: &mut [u8], used: usize, at: usize, place: usize) -> usize
-    ensures { InsertsPlace w.old used at place w.new result }
-{
-    insert(w, used, at, &place_bytes(place))
 }

@@ -52,7 +52,7 @@ columns_fit {s} x r = row_fits (λ k y f e. field_fits max_levels e) r
 module _ (parked : Bool) where
   -- `first` and `count`: the pairs of the sheet at q; they were merged into the row of places at the table's start
   module _ {s w : Bytes} {used q first count : ℕ} (p : (x : Schema) → Stands s q (sheet_bytes x) → PairsAt s x.metadata count first)
-      {w₁ : Bytes} {got : Merged} (m : MergesPairs s w used 0 first count schema_metadata_clash w₁ got) where
+      {w₁ : Bytes} {got : Merged} (size : length w₁ ≡ length w) (m : MergesPairs 0 first count schema_metadata_clash s w used w₁ got) where
     abbrev SaysPairs : Schema → Schema → ℕ → Bytes → Bytes → Merged → Type 0
     SaysPairs y a k x z r = Says (λ i v n. Places s pair_bytes i v n) (k + 4 * length (each pair_bytes y.metadata)) x z w₁ r (merge_metadata schema_metadata_clash a.metadata y.metadata)
 
@@ -65,10 +65,9 @@ module _ (parked : Bool) where
         (omega (arith, room, e.room, columns_fit a e.columns, length-append e.columns_bytes z))
 
     -- 25
-    pub sheet_stopped : {n : Number} → got ≡ Err n → MergesSheet parked s w used q w₁ got
+    pub sheet_stopped : {n : Number} → got ≡ Err n → MergesSheet parked q s w used w₁ got
     unfolding merge_schema ◌>>=◌
     sheet_stopped {n} c = record {
-      same_length = m.same_length;
       says = λ y st wf small x b z k a held hx e room.
           let t = subst (SaysPairs y a e.metadata_room x (e.columns_bytes ++ z)) c (pairs_said y st wf small x b z k a held hx e room) in
           subst (λ r. Says (SpellSchema s) (k + added y) x z w₁ r (merge_schema parked a y)) (sym c)
@@ -77,10 +76,9 @@ module _ (parked : Bool) where
 
     -- and then the columns, of which `n` stand at c, into the row behind the places
     pub sheet_merged : {kept row n c : ℕ} {w₂ : Bytes} {r : Merged} → got ≡ Ok kept → ((ps : List ℕ) → Every (λ p. p < no_place) ps → Skips w₁ 0 (places_bytes ps) row)
-        → ((x : Schema) → Stands s q (sheet_bytes x) → ColumnsAt s q x n c) → length w₂ ≡ length w₁ → Pours parked max_levels s w₁ kept row c n w₂ r → MergesSheet parked s w used q w₂ r
+        → ((x : Schema) → Stands s q (sheet_bytes x) → ColumnsAt s q x n c) → Pours parked max_levels row c n s w₁ kept w₂ r → MergesSheet parked q s w used w₂ r
     unfolding merge_schema ◌>>=◌
-    sheet_merged {kept} {row} {n} {c} {w₂} {r} g sk find same pours = record {
-      same_length = same ∙ m.same_length;
+    sheet_merged {kept} {row} {n} {c} {w₂} {r} g sk find pours = record {
       says = λ y st wf small x b z k a held hx e room.
           let t = subst (SaysPairs y a e.metadata_room x (e.columns_bytes ++ z)) g (pairs_said y st wf small x b z k a held hx e room) in
           let v = t.spelt in
@@ -97,7 +95,7 @@ module _ (parked : Bool) where
             well_formed = each_every (λ s g. WellFormedColumn g) WellFormedColumn (λ s g w. w) [] y.columns wf.columns;
           })
           (x ++ v) e.columns_bytes z e.columns_room a.columns held₁ (omega (arith, there, hx, length-append x v, ap length places.bytes)) e.columns
-          (omega (arith, room, m.same_length, length-append x v, e.room, t.fits, places_fit places)) in
+          (omega (arith, room, size, length-append x v, e.room, t.fits, places_fit places)) in
           subst (λ q. Says (SpellSchema s) (k + added y) x z w₂ r q)
           (sym (ap (λ m. m >>= λ v. pour (merge_by_name (merge_column parked)) a.columns y.columns >>= λ cs. done (record { metadata = v; columns = cs })) t.is))
           (says_in (SpellRow max_levels s) (SpellSchema s) (e.columns_room + more) (k + added y) x v [] z w₂ (λ cs. record { metadata = t.value; columns = cs })

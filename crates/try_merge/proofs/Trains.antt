@@ -2,9 +2,8 @@
 use Prim.Native.Nat.{ℕ, suc, ◌+◌, ◌*◌, ◌≤◌, ◌<◌}
 use native.Mathlib.Omega.{arith}
 use mathlib.Core.Path.{◌≡◌, refl, sym, ap, subst, ◌∙◌}
-use mathlib.Core.List.{List, [], ◌∷◌, ◌++◌, append-nil}
+use mathlib.Core.List.{List, [], ◌∷◌, ◌++◌}
 use lib.ListN.{length, take, length-append}
-use lib.Seq.{length-take-le}
 use Rattle.model.specs.Numbers.{max_sheet_bytes, max_sheets, work_bytes_per_sheet_byte}
 use Rattle.model.specs.Bytes.{Bytes, Every}
 use Rattle.model.specs.Tree.{Schema}
@@ -23,6 +22,7 @@ use Rattle.buffer.specs.declared.refusal.Number.{Number}
 use Rattle.buffer.specs.declared.refusal.Refusal.{Refusal}
 use Rattle.buffer.specs.Refusals.{number_of}
 use Rattle.table.specs.Held.{Held}
+use Rattle.table.specs.Edits.{Inserts}
 use Rattle.table.specs.Table.{no_place, no_entry, u24, none, SpellSchema}
 use Rattle.table.specs.Says.{Says}
 use Rattle.table.specs.Says as table
@@ -54,12 +54,12 @@ empty_spelt s = record {
   room = omega arith;
 }
 
--- its four bytes written over the first four of the work buffer
-pub table_begun : {w w' : Bytes} → length w' ≡ length w → ((x y z : Bytes) → Held w 4 x y z → 0 ≡ length x → length y ≡ 4 → Held w' 4 x (255 ∷ 255 ∷ 255 ∷ 255 ∷ []) z) → BeginsTable w w'
+-- its four bytes put in where none are in use
+pub table_begun : {w w₀ w' : Bytes} {u used : ℕ} → w₀ ≡ w → u ≡ 0 → length w' ≡ length w₀ → Inserts 0 (255 ∷ 255 ∷ 255 ∷ 255 ∷ []) w₀ u w' used → BeginsTable w w' used
 unfolding u24
-table_begun {w} {w'} same h = record {
-  same_length = same;
-  begins = λ room. h [] (take 4 w) [] (record { fits = room; is = sym (append-nil (take 4 w)) }) refl (length-take-le 4 w room);
+table_begun {w} {w₀} e z same ins = record {
+  same_length = same ∙ ap length e;
+  begins = λ room. (ins [] [] (record { fits = omega (arith, z); is = ap (λ n. take n w₀) z }) refl (omega (arith, z, room, ap length e))).1;
 }
 
 -- in either mode
@@ -85,7 +85,7 @@ module _ (parked : Bool) where
     pub same : length w ≡ length w₀
     pub so : (xs : List Schema) → s ≡ each sheet_bytes xs → Every Fits xs → length xs ≤ max_sheets → 1 ≤ length s → work_bytes_per_sheet_byte * length s ≤ length w₀ → Left s w used place sheet xs
 
-  pub merging_begin : {s w₀ w : Bytes} → BeginsTable w₀ w → Merging s w w 4 0 0
+  pub merging_begin : {s w₀ w : Bytes} {used : ℕ} → BeginsTable w₀ w used → Merging s w w used 0 0
   unfolding try_merge
   merging_begin {s} {w₀} {w} b = record {
     same = refl;
@@ -146,7 +146,7 @@ module _ (parked : Bool) where
     })
 
     -- one sheet more
-    module _ (before : place < length s) {w₁ : Bytes} {r : table.Merged} (g : MergesSheet parked s w used place w₁ r) where
+    module _ (before : place < length s) {w₁ : Bytes} {r : table.Merged} (size : length w₁ ≡ length w) (g : MergesSheet parked place s w used w₁ r) where
       said : (xs : List Schema) (o : Left s w used place sheet xs) (y : Schema) (ys : List Schema) → o.left ≡ y ∷ ys → work_bytes_per_sheet_byte * length s ≤ length w₀
           → Stands s place (sheet_bytes y ++ each sheet_bytes ys) × Fits y × Every Fits ys × (place + length (sheet_bytes y) + length (each sheet_bytes ys) ≡ length s)
           × Says (SpellSchema s) (o.table_room + added y) [] [] w₁ r (merge_schema parked o.merged y)
@@ -172,7 +172,7 @@ module _ (parked : Bool) where
 
       pub merging_stop : {n : Number} → r ≡ Err n → MergesSheets parked s w₀ w₁ (Err (record { 0 = n; 1 = sheet }))
       merging_stop {n} c = record {
-        same_length = g.same_length ∙ m.same;
+        same_length = size ∙ m.same;
         merges = λ xs e f k one room.
             let o = m.so xs e f k one room in
             let (y, ys, l) = split xs o in
@@ -187,7 +187,7 @@ module _ (parked : Bool) where
 
       pub merging_again : {end behind : ℕ} → r ≡ Ok end → SkipsSheet s place behind → Merging s w₀ w₁ end behind (sheet + 1)
       merging_again {end} {behind} c sk = record {
-        same = g.same_length ∙ m.same;
+        same = size ∙ m.same;
         so = λ xs e f k one room.
             let o = m.so xs e f k one room in
             let (y, ys, l) = split xs o in

@@ -1,4 +1,4 @@
--- What the functions that merge the sheets of a train promise: s is the train, w the work buffer before, w' after.
+-- What the functions that merge the sheets of a train promise: s is the train, w the work buffer before, of which `used` bytes are in use, w' after.
 use Rattle.std.specs.Prelude.{ℕ, ◌+◌, ◌*◌, ◌≤◌, ◌<◌, ◌≡◌, List, [], ◌∷◌, ◌++◌, Bool, length, Result}
 use Rattle.model.specs.Numbers.{max_sheets, work_bytes_per_sheet_byte}
 use Rattle.model.specs.Bytes.{Bytes, Every}
@@ -20,17 +20,16 @@ use Rattle.table.specs.Says.{Merged}
 abbrev pub empty_table : Bytes
 empty_table = u24 no_place ++ (no_entry ∷ [])
 
-pub record BeginsTable (w w' : Bytes) : Type 0 where
+pub record BeginsTable (w w' : Bytes) (used : ℕ) : Type 0 where
   pub same_length : length w' ≡ length w
-  pub begins : 4 ≤ length w → Held w' 4 [] empty_table []
+  pub begins : 4 ≤ length w → Held w' used [] empty_table []
 
 -- what the pairs and the columns of a sheet may add to the table: four bytes for each of theirs, and so four less than for all of the sheet
 abbrev pub added : Schema → ℕ
 added y = 4 * length (each pair_bytes y.metadata) + 4 * length (each column_bytes y.columns)
 
 -- one sheet
-pub record MergesSheet (parked : Bool) (s w : Bytes) (used q : ℕ) (w' : Bytes) (r : Merged) : Type 0 where
-  pub same_length : length w' ≡ length w
+pub record MergesSheet (parked : Bool) (q : ℕ) (s w : Bytes) (used : ℕ) (w' : Bytes) (r : Merged) : Type 0 where
   pub says : (y : Schema) → Stands s q (sheet_bytes y) → WellFormedSchema y → length s < no_place
       → Becomes (SpellSchema s) (SpellSchema s) w used 0 (added y) w' r λ x. merge_schema parked x y
 

@@ -11,34 +11,36 @@ ghost use Rattle.model.specs.WellFormed.{Fits};
 ghost use Rattle.model.specs.Merge.{try_merge};
 ghost use Rattle.model.specs.Call.{zeros, settled, sheet_answer, merge_call};
 ghost use Rattle.buffer.specs.Leaves.{leaves};
+ghost use Rattle.table.specs.Edited.{Merges};
 ghost use Rattle.try_merge.specs.Claims.{BeginsTable, MergesSheet, MergesSheets};
 
 use buffer::{Number, Refusal};
 use datatype::metadata::of_sheet;
 use sheet::Cursor;
+use table::Table;
 
 // The table of `Schema::empty`: the end of a row of places, and the end of a row of entries.
 const EMPTY: [u8; 4] = [255; 4];
 
-// Makes the table of the empty schema, of four bytes: a train of one byte has room for it.
-fn begin_table(w: &mut [u8])
-    ensures { BeginsTable w.old w.new }
+// The table of the empty schema, of four bytes: for a train of one byte there is room for it.
+fn begin_table<'a>(train: &'a [u8], w: &'a mut [u8]) -> Table<'a>
+    ensures same_reference { result.w.ghost_name ≡ w.entry.ghost_name }
+    ensures begins { (result.train.now ≡ train.now) × BeginsTable w.old result.w.now result.used }
 {
-    table::overwrite(w, EMPTY.len(), 0, &EMPTY);
+    let mut table = Table::new(train, w);
+    table.insert(0, &EMPTY);
+    table
 }
 
 // One sheet of the train into the table: "per sheet, its metadata by ascending key, then its columns in order".
-fn merge_sheet(s: &[u8], w: &mut [u8], used: usize, q: usize, parked: bool) -> Result<usize, Number>
-    ensures { MergesSheet parked s.now w.old used q w.new result }
+fn merge_sheet(table: &mut Table<'_>, q: usize, parked: bool) -> Result<(), Number>
+    ensures { Merges (MergesSheet parked q) table.old table.new result }
 {
-    let pairs = of_sheet(s, q);
-    let got = metadata::merge_pairs(s, w, used, 0, pairs, Number::SchemaMetadataClash);
-    let Ok(kept) = got else {
-        return got;
-    };
-    let row = table::skip_places(w, 0);
-    let columns = walk::find_columns(s, q);
-    field::pour(s, w, kept, row, columns, Cursor::LEVELS, parked)
+    let pairs = of_sheet(table.train, q);
+    let columns = walk::find_columns(table.train, q);
+    metadata::merge_pairs(table, 0, pairs, Number::SchemaMetadataClash)?;
+    let row = table.skip_places(0);
+    field::pour(table, row, columns, Cursor::LEVELS, parked)
 }
 
 // The sheets of a train, one after the other, into the table of the empty schema. It gives the number of sheets, or the clash with the sheet
@@ -46,14 +48,13 @@ fn merge_sheet(s: &[u8], w: &mut [u8], used: usize, q: usize, parked: bool) -> R
 fn merge_sheets(s: &[u8], w: &mut [u8], parked: bool) -> Result<usize, Refusal>
     ensures { MergesSheets parked s.now w.old w.new result }
 {
-    begin_table(w);
-    let mut used = EMPTY.len();
+    let mut table = begin_table(s, w);
     let mut place = 0;
     for sheet in 0..Cursor::SHEETS {
         if s.len() <= place {
             return Ok(sheet);
         }
-        used = merge_sheet(s, w, used, place, parked).map_err(|number| Refusal(number, sheet))?;
+        merge_sheet(&mut table, place, parked).map_err(|number| Refusal(number, sheet))?;
         place = walk::skip_sheet(s, place);
     }
     Ok(Cursor::SHEETS)

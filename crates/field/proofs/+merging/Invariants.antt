@@ -1,5 +1,6 @@
 -- A field, its type, and what the type holds. The levels left fall from a type to what it holds, and each function calls on one that stands before it at equal levels.
 use Prim.Native.Nat.{◌+◌, ◌*◌, ◌-◌}
+use Rattle.table.specs.Edited.{SameBuffers}
 use Rattle.field.proofs.Pouring.{Pouring}
 use Rattle.field.proofs.+merging.Given as goal
 
@@ -31,4 +32,7 @@ abbrev pub decreases-put : goal.decreases-put
 decreases-put l = 8 * l.levels + 4
 
 abbrev pub invariant-pour-loop : goal.invariant-pour-loop
-invariant-pour-loop l = Pouring l.parked l.levels l.s l.initial.w l.w l.used l.row l.fn.fields.at l.fn.fields.count l.held l.hint l.place (l.end - l.counter)
+invariant-pour-loop l =
+    let t = l.initial.table in
+    let u = l.table in
+    SameBuffers t u × Pouring l.parked l.levels t.train.now t.w.now u.w.now t.used l.row l.fn.fields.at l.fn.fields.count u.used l.hint l.place (l.end - l.counter)

@@ -13,7 +13,7 @@ returns-in-Some c =
     let a = c.args in
     find_here {there = c.in-Some.there}
     (λ ps g st.
-    first_from_find c.find.new.self _ (Some c.in-Some.there) (λ p. SameMembers a.s.now a.q p a.levels true) (λ p. SameMembers a.s.now a.q p a.levels false) c.in-Some.ensures.ran (row_gives ps c.new-children.ensures g st)
+    first_from_find c.find.new.self _ (Some c.in-Some.there) (λ p. SameMembers a.table.now.train.now a.q p a.levels true) (λ p. SameMembers a.table.now.train.now a.q p a.levels false) c.in-Some.ensures.ran (row_gives ps c.places-children.ensures g st)
     (λ x q k. search (rules, tests)) (λ x q k. search (rules, tests))) c.by_id.ensures
 
 pub returns-in-None : goal.returns-in-None
@@ -21,7 +21,7 @@ returns-in-None c =
     let a = c.args in
     let ran = c.in-None.ensures.ran in
     find_none λ ps g st. (
-      first_from_find c.find.new.self _ None (λ p. SameMembers a.s.now a.q p a.levels true) (λ p. SameMembers a.s.now a.q p a.levels false) ran (row_gives ps c.new-children.ensures g st)
+      first_from_find c.find.new.self _ None (λ p. SameMembers a.table.now.train.now a.q p a.levels true) (λ p. SameMembers a.table.now.train.now a.q p a.levels false) ran (row_gives ps c.places-children.ensures g st)
           (λ x q k. search (rules, tests)) (λ x q k. search (rules, tests)),
-      row_ends ps c.new-children.result c.find.new.self c.new-children.ensures g st ran.0 ran.2,
+      row_ends ps c.places-children.result c.find.new.self c.places-children.ensures g st ran.0 ran.2,
     )

@@ -11,5 +11,5 @@ pub returns : goal.returns
 returns c =
     let t = c.take_while.ensures in
     find_counted c.count.result λ ps g st.
-    front_counted _ _ (λ p b. KeyBelow c.args.s.now p c.args.q b) (λ x b h k. search rules) c.count.ensures.ran t.closure t.done
-    (YieldsList-at t.source (row_gives ps c.new.ensures g st))
+    front_counted _ _ (λ p b. KeyBelow c.args.table.now.train.now p c.args.q b) (λ x b h k. search rules) c.count.ensures.ran t.closure t.done
+    (YieldsList-at t.source (row_gives ps c.places.ensures g st))

@@ -1,7 +1,0 @@
--- `insert_place`: the three bytes of a place.
-use Rattle.table.specs.Table.{u24}
-use Rattle.table.proofs.insert_place.Goals as goal
-
-pub returns : goal.returns
-unfolding u24
-returns c = let k = rw c.place_bytes.ensures at c.insert.ensures in record { same_length = k.0; inserts = k.1 }

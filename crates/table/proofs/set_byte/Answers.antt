@@ -1,8 +1,0 @@
--- `set_byte`: one byte over one.
-use mathlib.Core.Path.{refl}
-use mathlib.Core.List.{[], ◌∷◌}
-use Rattle.table.proofs.Opening.{byte_set}
-use Rattle.table.proofs.set_byte.Goals as goal
-
-pub returns : goal.returns
-returns c = let o = c.overwrite.ensures in (o.0, λ x z b h e n. byte_set n (o.1 x (b ∷ []) z h e refl))
