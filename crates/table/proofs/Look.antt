@@ -1,5 +1,5 @@
 -- Looking up a name: one entry, the turns of the scan, and what was found.
-use Prim.Native.Nat.{ℕ, ◌+◌, ◌≤◌}
+use Prim.Native.Nat.{ℕ, ◌+◌, ◌≤◌, ◌<◌}
 use native.Mathlib.Omega.{arith}
 use mathlib.Core.Path.{◌≡◌, refl, sym, ap, subst, ◌∙◌}
 use mathlib.Core.List.{List, [], ◌∷◌, ◌++◌, append_assoc, append-nil}
@@ -10,13 +10,14 @@ use Rattle.model.specs.Tree.{Head, Field}
 use Rattle.model.specs.Sheet.{part, text_bytes, head_bytes}
 use Rattle.model.proofs.Lists.{every_append}
 use Rattle.walk.specs.Stands.{Stands, Skips}
-use Rattle.walk.proofs.Standing.{first_stands, second_stands, byte_stands, stands_behind, skip_ahead}
-use Rattle.walk.proofs.Parts.{Ahead}
+use Rattle.walk.proofs.Standing.{first_stands, second_stands, byte_stands}
 use Rattle.walk.proofs.Descents.{head_stands}
-use Rattle.table.specs.Table.{three, no_entry, Rows, none, more, SpellField, SpellRow}
+use Rattle.table.specs.Table.{three, u24, no_entry, Rows, none, more, SpellField, SpellRow}
 use Rattle.table.specs.Look.{Cut, FoundAt, Finds}
 use Rattle.std.proofs.Common.{Result, Ok, Err}
-use Rattle.table.proofs.Numbers.{three_stands}
+use Rattle.std.specs.List.{slice_range}
+use Rattle.std.proofs.lemmas.Grind.{common_steps}
+use Rattle.table.proofs.Numbers.{three_stands, length_u24}
 use Rattle.table.proofs.Entries.{SkipsEntries}
 
 -- what `has_name` of a field of the train ensures
@@ -35,15 +36,23 @@ module _ {s w : Bytes} {place : ℕ} where
   flags_stand l e st = byte_stands (subst (Stands w place) e.bytes st)
 
   module _ {name : Bytes} {b : ℕ} (i : b ≡ get_or w place 0) where
-    pub named_entry : {m t : ℕ} {r : Bool} → (b ≡ no_entry → ⊥) → Ahead w place 1 m → t ≡ three w m → HasName s t name r → Named s w place name r
-    named_entry {m} {t} {r} never a j h = (go, λ z. absurd (never (i ∙ z)))
+    pub named_entry : {t : ℕ} {r : Bool} → (b ≡ no_entry → ⊥) → t ≡ three w (place + 1) → HasName s t name r → Named s w place name r
+    named_entry {t} {r} never j h = (go, λ z. absurd (never (i ∙ z)))
       where
         go : (l k : ℕ) (y : Bytes) (f : Field l) (n : Bytes) → SpellField l s k y f → Stands w place y → name ≡ part text_bytes n → r ≡ same_bytes f.head.name n
         go l k y f n e st u =
-            let st2 = stands_behind (skip_ahead (e.flags ∷ []) refl a.1) (subst (Stands w place) e.bytes st) in
+            let st2 = second_stands (e.flags ∷ []) (u24 e.first ++ (e.metadata_bytes ++ e.type_spelt)) (subst (Stands w place) e.bytes st) in
             let first : t ≡ e.first = j ∙ three_stands e.first _ (omega (arith, e.small)) st2 in
             h e.own.head n (subst (λ p. Stands s p (head_bytes e.own.head)) (sym first) (head_stands l e.own e.stands)) u
             ∙ ap (λ z. same_bytes z n) e.name
+
+  -- where not so many bytes are left there is no entry
+  pub named_none : {name : Bytes} → length w < place + 4 → Named s w place name false
+  named_none short = (λ l k y f n e st u. absurd (omega (arith, short, st.inside, ap length e.bytes, length-append (u24 e.first) (e.metadata_bytes ++ e.type_spelt), length_u24 e.first)), λ z. refl)
+
+-- a byte of what is left of the table
+pub rest_read : (w : Bytes) (place i j : ℕ) {q : Bytes} → q ≡ slice_range w place (length w) → place + i ≡ j → j < length w → get_or q i 0 ≡ get_or w j 0
+rest_read w place i j e k h = rw e (grind (arith, common_steps))
 
 -- Rows
 

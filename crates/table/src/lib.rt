@@ -178,11 +178,16 @@ pub fn next_entry(w: &[u8], at: usize, levels: usize) -> usize
     at + 8
 }
 
-// Whether an entry stands at a place of the table and has a name, which is given as `name_of` gives one.
+// Whether an entry stands at a place of the table and has a name, which is given as `name_of` gives one. Its flags and its place are read by
+// one test of the room: a row may have thousands of entries.
 fn is_named(s: &[u8], w: &[u8], at: usize, name: &[u8]) -> bool
     ensures { ((l : ℕ) (k : ℕ) (y : Bytes) (f : Field l) (n : Bytes) → SpellField l s.now k y f → Stands w.now at y → name.now ≡ part text_bytes n → result ≡ same_bytes f.head.name n) × (get_or w.now at 0 ≡ no_entry → result ≡ false) }
 {
-    walk::byte(w, at) != NO_ENTRY && has_name(s, three(w, walk::ahead(w, at, 1)), name)
+    let Some([flags, a, b, c, ..]) = w.get(at..) else {
+        return false;
+    };
+    let first = u32::from_le_bytes([*a, *b, *c, 0]) as usize;
+    usize::from(*flags) != NO_ENTRY && has_name(s, first, name)
 }
 
 // The entry of a name, from a row's front on.
