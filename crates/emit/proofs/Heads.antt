@@ -18,7 +18,8 @@ use Rattle.walk.proofs.Standing.{first_stands, stands_behind, skip_ahead}
 use Rattle.model.proofs.MapBits.{flag_one, quarters, name_bit, dict_id_bit}
 use Rattle.walk.proofs.Parts.{Ahead, front_stands, map_stands}
 use Rattle.walk.proofs.Descents.{head_stands}
-use Rattle.table.specs.Table.{three, SpellMetadata, raw_pairs, pair_places, SpellField}
+use Rattle.table.specs.Look.{NamesPlace}
+use Rattle.table.specs.Table.{SpellMetadata, raw_pairs, pair_places, SpellField}
 use Rattle.emit.specs.Emission.{flagged_by, PutsHead, PutsRawHead, PutsDictId, PutsName, HasPlaces, PutsMetadata}
 use Rattle.emit.proofs.Fronts.{byte_is, place_is, behind_stands}
 use Rattle.emit.proofs.Putting.{PutsPart}
@@ -92,13 +93,13 @@ same_head_lem : (h g : Head) → h.nullable ≡ g.nullable → h.dict_is_ordered
 unfolding front_bytes head_bytes
 same_head_lem h g e₁ e₂ e₃ e₄ e₅ = rw (e₁, e₂, e₃, e₄, e₅) refl
 
-module _ {s w : Bytes} {place flags m first : ℕ} (e : flags ≡ get_or w place 0) (a : Ahead w place 1 m) (i : first ≡ three w m) where
+module _ {s w : Bytes} {place flags first : ℕ} (e : flags ≡ get_or w place 0) (i : NamesPlace w place first) where
   module _ (l : ℕ) {k : ℕ} {y : Bytes} {f : Field l} (p : SpellField l s k y f) (st : Stands w place y) where
     flags_are : flags ≡ p.flags
     flags_are = byte_is e p.bytes st
 
     first_is : first ≡ p.first
-    first_is = place_is p.flags p.first (p.metadata_bytes ++ p.type_spelt) a i p.small p.bytes st
+    first_is = place_is p.flags p.first (p.metadata_bytes ++ p.type_spelt) i p.small p.bytes st
 
     own_stands : Stands s first (head_bytes p.own.head)
     own_stands = subst (λ n. Stands s n (head_bytes p.own.head)) (sym first_is) (head_stands l p.own p.stands)

@@ -21,7 +21,8 @@ use Rattle.walk.specs.Stands.{Stands, Skips}
 use Rattle.walk.proofs.Standing.{first_stands, byte_stands, stands_behind}
 use Rattle.walk.proofs.Parts.{Ahead}
 use Rattle.walk.proofs.Descents.{type_stands}
-use Rattle.table.specs.Table.{u24, three, no_entry, Rows, none, more, SpellField, SpellRow}
+use Rattle.table.specs.Look.{NamesPlace}
+use Rattle.table.specs.Table.{u24, no_entry, Rows, none, more, SpellField, SpellRow}
 use Rattle.table.specs.Look.{Cut}
 use Rattle.table.specs.Entries.{GivesEntry}
 use Rattle.table.specs.declared.EntryRow.{EntryRow}
@@ -32,12 +33,12 @@ use Rattle.emit.proofs.Fronts.{place_is}
 use Rattle.emit.proofs.Putting.{Onward, onward_begin, onward_one, onward_done, onward_beyond, puts_counted_list}
 
 -- an entry: the head, then the type behind it
-pub entry_puts : {s w : Bytes} (levels : ℕ) {place m first inner own : ℕ} {o o₁ o₂ : Output} → PutsHead s w place o o₁ → Ahead w place 1 m → first ≡ three w m
+pub entry_puts : {s w : Bytes} (levels : ℕ) {place first inner own : ℕ} {o o₁ o₂ : Output} → PutsHead s w place o o₁ → NamesPlace w place first
     → ((l : ℕ) (s : Bytes) (k : ℕ) (y : Bytes) (f : Field l) (e : SpellField l s k y f) → Skips w place (e.flags ∷ (u24 e.first ++ e.metadata_bytes)) inner)
     → ((h : Head) → Skips s first (head_bytes h) own) → PutsType s w inner own levels o₁ o₂ → PutsEntry s w place levels o o₂
 unfolding field_bytes
-entry_puts {s} {w} levels {place} head a i skip own type l k y f h e st =
-    let is = place_is e.flags e.first (e.metadata_bytes ++ e.type_spelt) a i e.small e.bytes st in
+entry_puts {s} {w} levels {place} head i skip own type l k y f h e st =
+    let is = place_is e.flags e.first (e.metadata_bytes ++ e.type_spelt) i e.small e.bytes st in
     let bytes = e.bytes ∙ ap (λ z. e.flags ∷ z) (sym (append_assoc (u24 e.first) e.metadata_bytes e.type_spelt)) in
     puts_join (head_bytes f.head) (type_bytes l f.data_type) (head l k y f e st)
     (type l e.type_room e.type_spelt e.own.data_type f.data_type h e.data_type (stands_behind (skip l s k y f e) (subst (Stands w place) bytes st))

@@ -19,7 +19,8 @@ use Rattle.buffer.specs.Puts.{Puts}
 use Rattle.buffer.proofs.Puts.{puts_same, puts_join}
 use Rattle.walk.specs.Stands.{Stands, member_bytes}
 use Rattle.walk.proofs.Parts.{Ahead}
-use Rattle.table.specs.Table.{u24, three, raw, open_struct, open_list, open_union, spell_raw, spell_struct, spell_list, spell_union}
+use Rattle.table.specs.Look.{NamesPlace}
+use Rattle.table.specs.Table.{u24, raw, open_struct, open_list, open_union, spell_raw, spell_struct, spell_list, spell_union}
 use Rattle.emit.specs.Emission.{PutsType, PutsEntry, PutsRow, PutsSurvivor, PutsUnion}
 use Rattle.emit.proofs.Fronts.{byte_is, place_is, behind_stands}
 use Rattle.emit.proofs.Survivors.{raw_survives}
@@ -53,12 +54,12 @@ code_and : (s : Bytes) (x z c : ℕ) (b : Bytes) {bytes : Bytes} {o o₁ o₂ : 
 code_and s x z c b o g n one f = puts_same (sym n) (puts_join (c ∷ []) b (puts_same (ap (λ n. n ∷ []) (ap (λ i. get_or s i 0) o ∙ g)) one) f)
 
 module _ {s w : Bytes} {place own : ℕ} (levels : ℕ) where
-  module _ {kind m x : ℕ} (e : kind ≡ get_or w place 0) (a : Ahead w place 1 m) (j : x ≡ three w m) where
+  module _ {kind x : ℕ} (e : kind ≡ get_or w place 0) (j : NamesPlace w place x) where
     module _ {o : Output} where
       pub type_raw : {o' : Output} → kind ≡ raw → PutsSurvivor s own x levels o o' → PutsType s w place own levels o o'
       type_raw h f zero k y first t i q st u v = absurd q
       type_raw h f (suc l) k y first t i (spell_raw z b n o) st u v =
-          let c : x ≡ z = place_is raw z [] a j n.small (b ∙ ap (λ y. raw ∷ y) (sym (append-nil (u24 z)))) st in
+          let c : x ≡ z = place_is raw z [] j n.small (b ∙ ap (λ y. raw ∷ y) (sym (append-nil (u24 z)))) st in
           puts_same (ap (type_bytes (suc l)) (raw_survives l first t o))
           (f (suc l) first t i v (type_laid_out (suc l) n.ordered t n.well_formed) u (subst (λ n. Stands s n (type_bytes (suc l) t)) (sym c) n.stands))
       type_raw h f (suc l) k y first t i (spell_struct z m ys b n g c o row room) st u v = absurd (omega (arith, h, byte_is e b st))
@@ -70,7 +71,7 @@ module _ {s w : Bytes} {place own : ℕ} (levels : ℕ) where
         type_struct h f zero k y first t i p st u v = absurd p
         type_struct h f (suc l) k y first t i (spell_raw z b n o) st u v = absurd (omega (arith, h, byte_is e b st))
         type_struct h f (suc l) k y first t i (spell_struct z m ys b n g c o row room) st u v =
-            code_and s x z t.code _ (place_is open_struct z ys a j n b st) (g ∙ sym c) (struct_bytes l t c o) one (f l m ys t.children (omega (arith, i)) row (behind_stands open_struct z ys ahead b st))
+            code_and s x z t.code _ (place_is open_struct z ys j n b st) (g ∙ sym c) (struct_bytes l t c o) one (f l m ys t.children (omega (arith, i)) row (behind_stands open_struct z ys ahead b st))
         type_struct h f (suc l) k y first t i (spell_list z m ys k₁ b n g c o ps v₁ room) st u v = absurd (omega (arith, h, byte_is e b st))
         type_struct h f (suc l) k y first t i (spell_union z m ys b n g c o ps v₁ room) st u v = absurd (omega (arith, h, byte_is e b st))
 
@@ -79,7 +80,7 @@ module _ {s w : Bytes} {place own : ℕ} (levels : ℕ) where
         type_list h f (suc l) k y first t i (spell_raw z b n o) st u v = absurd (omega (arith, h, byte_is e b st))
         type_list h f (suc l) k y first t i (spell_struct z m ys b n g c o row room) st u v = absurd (omega (arith, h, byte_is e b st))
         type_list h f (suc l) k y first t i (spell_list z m ys k₁ b n g c o ps v₁ room) st u v =
-            code_and s x z t.code _ (place_is open_list z ys a j n b st) g (list_bytes l t k₁ c o v₁) one (f l m ys k₁ (omega (arith, i)) ps (behind_stands open_list z ys ahead b st))
+            code_and s x z t.code _ (place_is open_list z ys j n b st) g (list_bytes l t k₁ c o v₁) one (f l m ys k₁ (omega (arith, i)) ps (behind_stands open_list z ys ahead b st))
         type_list h f (suc l) k y first t i (spell_union z m ys b n g c o ps v₁ room) st u v = absurd (omega (arith, h, byte_is e b st))
 
         pub type_union : {o₂ : Output} → (kind ≡ raw → ⊥) → (kind ≡ open_struct → ⊥) → (kind ≡ open_list → ⊥) → PutsUnion s w (x + 1) inner (levels - 1) o₁ o₂
@@ -89,6 +90,6 @@ module _ {s w : Bytes} {place own : ℕ} (levels : ℕ) where
         type_union h₀ h₁ h₂ f (suc l) k y first t i (spell_struct z m ys b n g c o row room) st u v = absurd (h₁ (byte_is e b st))
         type_union h₀ h₁ h₂ f (suc l) k y first t i (spell_list z m ys k₁ b n g c o ps v₁ room) st u v = absurd (h₂ (byte_is e b st))
         type_union h₀ h₁ h₂ f (suc l) k y first t i (spell_union z m ys b n g c o ps v₁ room) st u v =
-            let x-is = place_is open_union z ys a j n b st in
+            let x-is = place_is open_union z ys j n b st in
             code_and s x z t.code _ x-is (g ∙ sym c) (union_bytes l t (get_or s (x + 1) 0) c (o ∙ ap (λ n. get_or s (n + 1) 0 ∷ []) (sym x-is))) one
             (f l m ys t.children (omega (arith, i)) ps v₁ (behind_stands open_union z ys ahead b st))

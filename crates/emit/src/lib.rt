@@ -138,7 +138,7 @@ impl Spelling<'_> {
         ensures { PutsHead self.now.train.now self.now.table.now at out.old out.new }
     {
         let flags = walk::byte(self.table, at);
-        let first = table::three(self.table, walk::ahead(self.table, at, 1));
+        let first = table::place_at(self.table, at);
         if flags / 4 != 1 {
             return put_raw_head(self.train, first, flags, out);
         }
@@ -167,7 +167,7 @@ impl Spelling<'_> {
         ensures { PutsEntry self.now.train.now self.now.table.now at levels out.old out.new }
     {
         self.put_head(at, out);
-        let first = table::three(self.table, walk::ahead(self.table, at, 1));
+        let first = table::place_at(self.table, at);
         let own = walk::skip_head(self.train, first);
         self.put_type(table::skip_head(self.table, at), own, levels, out);
     }
@@ -180,7 +180,7 @@ impl Spelling<'_> {
         if levels == 0 {
             return;
         }
-        let x = table::three(self.table, walk::ahead(self.table, at, 1));
+        let x = table::place_at(self.table, at);
         let inner = walk::ahead(self.table, at, 4);
         match table::kind_at(self.table, at) {
             Kind::Raw => put_raw(self.train, own, x, levels, out),

@@ -1,8 +1,4 @@
-<<<<<<< HEAD
 -- A place between the entries of a row: passing over them, and looking up a name: one entry, the turns of the scan, and what was found.
-=======
--- Looking up a name: one entry, the turns of the scan, and what was found.
->>>>>>> 6378012c90dd453cedba35d2ba156d94765a010c
 use Prim.Native.Nat.{ℕ, ◌+◌, ◌≤◌, ◌<◌}
 use native.Mathlib.Omega.{arith}
 use mathlib.Core.Path.{◌≡◌, refl, sym, ap, subst, ◌∙◌}
@@ -14,7 +10,6 @@ use Rattle.model.specs.Tree.{Head, Field}
 use Rattle.model.specs.Sheet.{part, text_bytes, head_bytes}
 use Rattle.model.proofs.Lists.{every_append}
 use Rattle.walk.specs.Stands.{Stands, Skips}
-<<<<<<< HEAD
 use Rattle.walk.proofs.Standing.{first_stands, second_stands, byte_stands, stands_behind, skip_ahead}
 use Rattle.walk.proofs.Descents.{head_stands}
 use Rattle.table.specs.Table.{three, no_entry, Rows, none, more, SpellField, SpellRow}
@@ -30,17 +25,6 @@ use Rattle.std.specs.List.{FoldsTo}
 use Rattle.std.specs.Iterator.{Yields, FindsItem}
 use Rattle.table.proofs.Numbers.{three_stands}
 use Rattle.table.proofs.Entries.{SkipsRows, steps_over}
-=======
-use Rattle.walk.proofs.Standing.{first_stands, second_stands, byte_stands}
-use Rattle.walk.proofs.Descents.{head_stands}
-use Rattle.table.specs.Table.{three, u24, no_entry, Rows, none, more, SpellField, SpellRow}
-use Rattle.table.specs.Look.{Cut, FoundAt, Finds}
-use Rattle.std.proofs.Common.{Result, Ok, Err}
-use Rattle.std.specs.List.{slice_range}
-use Rattle.std.proofs.lemmas.Grind.{common_steps}
-use Rattle.table.proofs.Numbers.{three_stands, length_u24}
-use Rattle.table.proofs.Entries.{SkipsEntries}
->>>>>>> 6378012c90dd453cedba35d2ba156d94765a010c
 
 -- what `has_name` of a field of the train ensures
 abbrev HasName : Bytes → ℕ → Bytes → Bool → Type 0
@@ -51,31 +35,10 @@ module _ {s w : Bytes} {place : ℕ} where
   flags_stand : (l : ℕ) {k : ℕ} {y : Bytes} {f : Field l} (e : SpellField l s k y f) → Stands w place y → get_or w place 0 ≡ e.flags
   flags_stand l e st = byte_stands (subst (Stands w place) e.bytes st)
 
-<<<<<<< HEAD
   pub named_entry : {name : Bytes} {t : ℕ} {r : Bool} → t ≡ three w (place + 1) → HasName s t name r → NamesEntry s w place name r
   named_entry {t = t} i h l k y f n e st u =
       let first : t ≡ e.first = i ∙ three_stands e.first _ (omega (arith, e.small)) (stands_behind (skip_ahead (e.flags ∷ []) refl λ z. refl) (subst (Stands w place) e.bytes st)) in
       h e.own.head n (subst (λ p. Stands s p (head_bytes e.own.head)) (sym first) (head_stands l e.own e.stands)) u ∙ ap (λ z. same_bytes z n) e.name
-=======
-  module _ {name : Bytes} {b : ℕ} (i : b ≡ get_or w place 0) where
-    pub named_entry : {t : ℕ} {r : Bool} → (b ≡ no_entry → ⊥) → t ≡ three w (place + 1) → HasName s t name r → Named s w place name r
-    named_entry {t} {r} never j h = (go, λ z. absurd (never (i ∙ z)))
-      where
-        go : (l k : ℕ) (y : Bytes) (f : Field l) (n : Bytes) → SpellField l s k y f → Stands w place y → name ≡ part text_bytes n → r ≡ same_bytes f.head.name n
-        go l k y f n e st u =
-            let st2 = second_stands (e.flags ∷ []) (u24 e.first ++ (e.metadata_bytes ++ e.type_spelt)) (subst (Stands w place) e.bytes st) in
-            let first : t ≡ e.first = j ∙ three_stands e.first _ (omega (arith, e.small)) st2 in
-            h e.own.head n (subst (λ p. Stands s p (head_bytes e.own.head)) (sym first) (head_stands l e.own e.stands)) u
-            ∙ ap (λ z. same_bytes z n) e.name
->>>>>>> 6378012c90dd453cedba35d2ba156d94765a010c
-
-  -- where not so many bytes are left there is no entry
-  pub named_none : {name : Bytes} → length w < place + 4 → Named s w place name false
-  named_none short = (λ l k y f n e st u. absurd (omega (arith, short, st.inside, ap length e.bytes, length-append (u24 e.first) (e.metadata_bytes ++ e.type_spelt), length_u24 e.first)), λ z. refl)
-
--- a byte of what is left of the table
-pub rest_read : (w : Bytes) (place i j : ℕ) {q : Bytes} → q ≡ slice_range w place (length w) → place + i ≡ j → j < length w → get_or q i 0 ≡ get_or w j 0
-rest_read w place i j e k h = rw e (grind (arith, common_steps))
 
 -- Rows
 

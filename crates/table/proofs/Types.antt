@@ -1,5 +1,5 @@
 -- The types of entries: their code, and what becomes of them.
-use Prim.Native.Nat.{ℕ, suc, ◌<◌}
+use Prim.Native.Nat.{ℕ, ◌+◌, suc, ◌<◌}
 use native.Mathlib.Omega.{arith}
 use mathlib.Core.Path.{◌≡◌, refl, sym, ap, subst, ◌∙◌}
 use mathlib.Core.List.{[], ◌∷◌, append-nil}
@@ -18,8 +18,8 @@ use Rattle.table.proofs.Numbers.{three_stands}
 -- The place in a type's entry, and the code there
 
 -- what stands behind one byte is the place
-pub place_there : {w : Bytes} {place m r : ℕ} → Ahead w place 1 m → r ≡ three w m → NamesPlace w place r
-place_there a e c x ys h st = e ∙ three_stands x ys (omega (arith, h)) (stands_behind (skip_ahead (c ∷ []) refl a.1) st)
+pub place_there : {w : Bytes} {place r : ℕ} → r ≡ three w (place + 1) → NamesPlace w place r
+place_there e c x ys h st = e ∙ three_stands x ys (omega (arith, h)) (stands_behind (skip_ahead (c ∷ []) refl λ z. refl) st)
 
 module _ {w : Bytes} {place t : ℕ} (n : NamesPlace w place t) where
   pub raw_there : (x : ℕ) → x < no_place → Stands w place (raw ∷ u24 x) → t ≡ x

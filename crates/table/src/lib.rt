@@ -223,9 +223,9 @@ impl Iterator for EntryRow<'_> {
     }
 }
 
-// The number of three bytes behind the byte at a place: behind an entry's flags, the place of its first occurrence.
+// The place of the train that stands behind one byte: that of an entry's first occurrence behind its flags, and a type's behind its kind.
 #[tactic(auto, unfolding(crate::specs::Table::three))]
-fn first_at(w: &[u8], at: usize) -> usize
+pub fn place_at(w: &[u8], at: usize) -> usize
     ensures { result ≡ three w.now (at + 1) }
 {
     match w.get(at..) {
@@ -238,7 +238,7 @@ fn first_at(w: &[u8], at: usize) -> usize
 fn has_entry_name(s: &[u8], w: &[u8], at: usize, name: &[u8]) -> bool
     ensures { NamesEntry s.now w.now at name.now result }
 {
-    has_name(s, first_at(w, at), name)
+    has_name(s, place_at(w, at), name)
 }
 
 // Whether an entry stands at a place of the table, which may be a row's end, and has a name.
@@ -310,7 +310,7 @@ impl Table<'_> {
     pub fn place_at(&self, at: usize) -> usize
         ensures { NamesPlace self.now.w.now at result }
     {
-        self.three(self.ahead(at, 1))
+        place_at(self.w, at)
     }
 
     // The code of the type whose entry stands at a place.
