@@ -1,8 +1,8 @@
 -- The front of an entry, and of a type's entry: a byte and a place of the train.
 use Prim.Native.Nat.{ℕ, ◌<◌}
 use native.Mathlib.Omega.{arith}
-use mathlib.Core.Path.{◌≡◌, refl, subst, ◌∙◌}
-use mathlib.Core.List.{[], ◌∷◌, ◌++◌}
+use mathlib.Core.Path.{◌≡◌, subst, ◌∙◌}
+use mathlib.Core.List.{◌∷◌, ◌++◌}
 use lib.ListN.{get_or}
 use Rattle.model.specs.Bytes.{Bytes}
 use Rattle.walk.specs.Stands.{Stands}

@@ -19,7 +19,6 @@ use Rattle.buffer.specs.Puts.{Puts}
 use Rattle.buffer.proofs.Puts.{puts_join}
 use Rattle.walk.specs.Stands.{Stands, Skips}
 use Rattle.walk.proofs.Standing.{first_stands, byte_stands, stands_behind}
-use Rattle.walk.proofs.Parts.{Ahead}
 use Rattle.walk.proofs.Descents.{type_stands}
 use Rattle.table.specs.Look.{NamesPlace}
 use Rattle.table.specs.Table.{u24, no_entry, Rows, none, more, SpellField, SpellRow}

@@ -15,7 +15,8 @@ use Rattle.buffer.proofs.Puts.{puts_same, puts_join}
 use Rattle.walk.specs.Stands.{Stands, Skips}
 use Rattle.walk.proofs.Standing.{first_stands, stands_behind}
 use Rattle.table.specs.Table.{Places, SpellSchema}
-use Rattle.table.proofs.Entries.{SkipsPlaces, refer_small}
+use Rattle.table.specs.Look.{SkipsPlaces}
+use Rattle.table.proofs.Entries.{refer_small}
 use Rattle.emit.specs.Emission.{PutsRow, HasPlaces, HasEntries, PutsMetadata, PutsColumns}
 use Rattle.emit.proofs.Putting.{flag_of, puts_part, puts_no_part}
 use Rattle.emit.proofs.Copies.{places_stand}

@@ -12,7 +12,7 @@ use Rattle.model.specs.Tree.{FieldOver, DataType, Field}
 use Rattle.walk.specs.Stands.{Stands, Skips}
 use Rattle.walk.proofs.Standing.{byte_stands, skip_ahead, skip_join, skip_when}
 use Rattle.walk.proofs.Parts.{Ahead}
-use Rattle.table.specs.Table.{u24, no_place, no_entry, raw, open_struct, open_list, open_union, places_bytes, Refer, none_left, one_place, SpellMetadata, raw_pairs, pair_places, SpellFieldOver, spell_raw, spell_struct, spell_list, spell_union, SpellType, SpellRow}
+use Rattle.table.specs.Table.{u24, no_place, no_entry, raw, open_struct, open_list, open_union, Refer, none_left, one_place, SpellMetadata, raw_pairs, pair_places, SpellFieldOver, spell_raw, spell_struct, spell_list, spell_union, SpellType, SpellRow}
 use Rattle.std.proofs.Common.{Option}
 use Rattle.table.specs.Entries.{SkipsEntries, NoEntry, StepsOver, GivesEntry}
 use Rattle.table.specs.Look.{SkipsPlaces}

@@ -8,7 +8,6 @@ use Rattle.model.specs.Bytes.{Bytes}
 use Rattle.model.specs.Tree.{DataType}
 use Rattle.walk.specs.Stands.{Stands}
 use Rattle.walk.proofs.Standing.{stands_behind, skip_ahead}
-use Rattle.walk.proofs.Parts.{Ahead}
 use Rattle.walk.proofs.Descents.{code_stands}
 use Rattle.table.specs.Held.{Held}
 use Rattle.table.specs.Table.{no_place, raw, u24, three, SpellType, spell_raw, spell_struct, spell_list, spell_union}

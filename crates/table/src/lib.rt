@@ -226,7 +226,7 @@ impl Iterator for EntryRow<'_> {
 // The place of the train that stands behind one byte: that of an entry's first occurrence behind its flags, and a type's behind its kind.
 #[tactic(auto, unfolding(crate::specs::Table::three))]
 pub fn place_at(w: &[u8], at: usize) -> usize
-    ensures { result ≡ three w.now (at + 1) }
+    ensures { (result ≡ three w.now (at + 1)) × (result < 16777216) }
 {
     match w.get(at..) {
         Some([_, behind @ ..]) => three(behind, 0),

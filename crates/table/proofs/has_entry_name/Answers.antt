@@ -3,4 +3,4 @@ use Rattle.table.proofs.Look.{named_entry}
 use Rattle.table.proofs.has_entry_name.Goals as goal
 
 pub returns : goal.returns
-returns c = named_entry c.place_at.ensures c.has_name.ensures
+returns c = named_entry c.place_at.ensures.0 c.has_name.ensures
