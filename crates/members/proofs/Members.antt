@@ -16,13 +16,13 @@ use Rattle.model.specs.WellFormed.{WellFormedParams, WellFormedType, Child}
 use Rattle.model.specs.Equal.{same_field, same_type}
 use Rattle.model.proofs.Lists.{every_map}
 use Rattle.model.proofs.Whole.{whole_laid_out, type_whole}
-use Rattle.walk.specs.Stands.{Stands, SkipsField, member_bytes}
-use Rattle.walk.proofs.Standing.{byte_stands, second_stands, stands_behind, skip_ahead, skip_join}
+use Rattle.walk.specs.Stands.{Stands, Skips, SkipsMember, member_bytes}
+use Rattle.walk.proofs.Standing.{byte_stands, second_stands, stands_behind, skip_ahead}
 use Rattle.walk.proofs.Parts.{Ahead, two_at}
 use Rattle.walk.proofs.Descents.{count_stands, elements_stand}
 use Rattle.members.specs.declared.Match.TheVariants.{SameId, OtherId}
 use Rattle.members.specs.Rows.{WholeChild, by_id}
-use Rattle.members.specs.Claims.{SameMembers, SkipsMember, FindsChildren}
+use Rattle.members.specs.Claims.{SameMembers, FindsChildren}
 
 -- what `same_field` of two fields of the train ensures
 abbrev SameFields : (s : Bytes) (a b levels : ℕ) → Bool → Type 0
@@ -37,8 +37,9 @@ module _ {s : Bytes} where
   pub members_same : {a b field other levels : ℕ} {r : Bool} → Ahead s a 1 field → Ahead s b 1 other → SameFields s field other levels r → SameMembers s a b levels r
   members_same i j c l f g h v w st u = c l f g h v w (behind_id l f i st) (behind_id l g j u)
 
-  pub member_skips : {place own levels r : ℕ} → Ahead s place 1 own → SkipsField s own levels r → SkipsMember s place levels r
-  member_skips a g l f h w = skip_join (skip_ahead (_ ∷ []) refl a.1) (g l f h (whole_laid_out l f.data_type w))
+  -- a child that is gone over
+  pub child_skips : {place levels r : ℕ} → SkipsMember s place levels r → (l : ℕ) (f : Field l) → l ≤ levels → WholeChild l f → Skips s place (member_bytes l f) r
+  child_skips g l f h w = g l f h (whole_laid_out l f.data_type w)
 
 -- Ids
 

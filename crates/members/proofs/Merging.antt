@@ -15,7 +15,7 @@ use Rattle.model.specs.Equal.{same_field, same_type}
 use Rattle.model.specs.Merge.{done, clash, need, ◌>>=◌, merge_child}
 use Rattle.model.proofs.Lists.{every_append}
 use Rattle.model.proofs.Gives.{choose_true, choose_false}
-use Rattle.walk.specs.Stands.{Stands, member_bytes}
+use Rattle.walk.specs.Stands.{Stands, SkipsMember, member_bytes}
 use Rattle.table.specs.Held.{Held}
 use Rattle.table.specs.Table.{u24, no_place}
 use Rattle.table.specs.Edits.{InsertsPlace}
@@ -28,7 +28,8 @@ use Rattle.table.proofs.Pouring.{One, Pouring, pouring_again, pouring_stop, pour
 use Rattle.members.specs.declared.Match.{Match}
 use Rattle.members.specs.declared.Match.TheVariants.{SameId, OtherId, Missing}
 use Rattle.members.specs.Rows.{WholeChild, Members, by_id, first_equal}
-use Rattle.members.specs.Claims.{FindsMember, SkipsMember, MergesMember, MergesMembers}
+use Rattle.members.proofs.Members.{child_skips}
+use Rattle.members.specs.Claims.{FindsMember, MergesMember, MergesMembers}
 
 -- What the first equal child says of the merge
 
@@ -125,7 +126,7 @@ module _ {levels : ℕ} {s w₀ w : Bytes} {used row q count end place left : �
     one l f low small v st x y z k a h hx p = (merges l low).says x y z k a f h hx p st v (omega (arith, st.inside, small))
 
     pub merging_again : {next place' left' : ℕ} → length w' ≡ length w → r ≡ Ok next → SkipsMember s place levels place' → left ≡ left' + 1 → Merging levels s w₀ w' used row q count next place' left'
-    merging_again size e skips less = pouring_again _ _ _ _ _ _ _ t (λ l. Members l s) more one size e skips less
+    merging_again size e skips less = pouring_again _ _ _ _ _ _ _ t (λ l. Members l s) more one size e (child_skips skips) less
 
     pub merging_stop : {c : Number} → r ≡ Err c → MergesMembers levels row q count s w₀ used w' r
     merging_stop e = pouring_stop _ _ _ _ _ _ _ t (λ l. Members l s) more one e

@@ -9,7 +9,7 @@ use Rattle.model.specs.Bytes.{Bytes}
 use Rattle.model.specs.Tree.{Field, List', LargeList, Union}
 use Rattle.model.specs.Sheet.{each}
 use Rattle.model.proofs.Lists.{each_append}
-use Rattle.walk.specs.Stands.{Stands, member_bytes}
+use Rattle.walk.specs.Stands.{Stands, SkipsMember, member_bytes}
 use Rattle.walk.proofs.Standing.{byte_stands}
 use Rattle.walk.proofs.Parts.{Ahead}
 use Rattle.walk.proofs.Passed.{Passed, passed_begin, passed_again, passed_done}
@@ -24,8 +24,8 @@ use Rattle.table.proofs.Places.{refer_length, refer_append}
 use Rattle.table.proofs.Types.{raw_there}
 use Rattle.table.proofs.Opening.{kind_set, inner_is}
 use Rattle.members.specs.Rows.{WholeChild}
-use Rattle.members.specs.Claims.{SkipsMember, FindsChildren, Inserted, InsertsMembers, OpensRaw, OpensUnion}
-use Rattle.members.proofs.Members.{union_parts, mode_stands, members_long, union_long}
+use Rattle.members.specs.Claims.{FindsChildren, Inserted, InsertsMembers, OpensRaw, OpensUnion}
+use Rattle.members.proofs.Members.{child_skips, union_parts, mode_stands, members_long, union_long}
 
 -- Place after place
 
@@ -76,7 +76,7 @@ module _ {levels : ℕ} {s w₀ w : Bytes} {used first q count end row place i :
   inserting_again less size ins a skips = record {
     same = size ∙ k.same;
     passed = λ l x z h small held hx room.
-        passed_again (WholeChild l) (member_bytes l) s (k.passed l x z h small held hx room) less (λ f v. skips l f h v) λ passed f n p v st.
+        passed_again (WholeChild l) (member_bytes l) s (k.passed l x z h small held hx room) less (λ f v. child_skips skips l f h v) λ passed f n p v st.
         put_more ins a passed f (omega (arith, grown p, n, less, room, k.same)) (omega (arith, st.inside, small)) p st;
   }
     where

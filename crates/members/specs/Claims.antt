@@ -9,7 +9,7 @@ use Rattle.model.specs.WellFormed.{WellFormedType}
 use Rattle.model.specs.Equal.{same_field, same_type}
 use Rattle.model.specs.Merge as model
 use Rattle.model.specs.Merge.{◌>>=◌, need, pour, merge_child, ids_differ}
-use Rattle.walk.specs.Stands.{Stands, Skips, member_bytes}
+use Rattle.walk.specs.Stands.{Stands, member_bytes}
 use Rattle.table.specs.Held.{Held}
 use Rattle.table.specs.Table.{no_place, raw, open_union, u24, Refer, Places, RawAt, SpellType}
 use Rattle.table.specs.Pours.{MergesOne, MergesMany}
@@ -24,9 +24,6 @@ use Rattle.members.specs.Rows.{WholeChild, Members, ChildrenAt, first_equal}
 abbrev pub SameMembers : (s : Bytes) (a b levels : ℕ) → Bool → Type 0
 SameMembers s a b levels r =
     (l : ℕ) (f g : Field l) → l ≤ levels → WholeChild l f → WholeChild l g → Stands s a (member_bytes l f) → Stands s b (member_bytes l g) → r ≡ same_field (same_type l) f g
-
-abbrev pub SkipsMember : (s : Bytes) (place levels r : ℕ) → Type 0
-SkipsMember s place levels r = (l : ℕ) (f : Field l) → l ≤ levels → WholeChild l f → Skips s place (member_bytes l f) r
 
 -- those of a well-formed union that stands at a place
 abbrev pub FindsChildren : (s : Bytes) (t count first : ℕ) → Type 0

@@ -6,7 +6,7 @@
 ghost use Rattle.std.specs.Prelude.{◌≡◌, get_or, eqb};
 ghost use Rattle.table.specs.Edited.{Edits, Merges};
 ghost use Rattle.members.specs.Rows.{by_id};
-ghost use Rattle.members.specs.Claims.{SameMembers, SkipsMember, FindsChildren, FindsMember, FindsId, TellsIds, MergesMember, MergesMembers, InsertsMembers, OpensRaw, OpensUnion, MergesUnion};
+ghost use Rattle.members.specs.Claims.{SameMembers, FindsChildren, FindsMember, FindsId, TellsIds, MergesMember, MergesMembers, InsertsMembers, OpensRaw, OpensUnion, MergesUnion};
 
 use buffer::Number;
 use table::{Kind, PlaceRow, Table};
@@ -65,13 +65,6 @@ pub fn merge_member(table: &mut Table<'_>, at: usize, q: usize, levels: usize) -
     }
 }
 
-// A child of the train: its id and its field.
-fn skip_member(s: &[u8], at: usize, levels: usize) -> usize
-    ensures { SkipsMember s.now at levels result }
-{
-    walk::skip_field(s, walk::ahead(s, at, 1), levels)
-}
-
 // Children of the train, one behind the other, into a row of children: the loop of `UnionFields::try_merge`.
 pub fn merge_members(
     table: &mut Table<'_>,
@@ -85,7 +78,7 @@ pub fn merge_members(
     let mut place = new.at;
     for _ in 0..new.count {
         merge_member(table, at, place, levels)?;
-        place = skip_member(train, place, levels);
+        place = walk::skip_member(train, place, levels);
     }
     Ok(())
 }
@@ -129,7 +122,7 @@ fn insert_members(table: &mut Table<'_>, at: usize, children: Elements, levels: 
     for _ in 0..children.count {
         table.insert_place(row, place);
         row = table.ahead(row, 3);
-        place = skip_member(train, place, levels);
+        place = walk::skip_member(train, place, levels);
     }
 }
 

@@ -3,19 +3,18 @@ use Prim.Native.Nat.{ℕ, ◌+◌, ◌≤◌}
 use native.Mathlib.Omega.{arith}
 use mathlib.Core.Path.{◌≡◌, refl, sym, ap, ◌∙◌}
 use mathlib.Core.List.{[], ◌∷◌}
-use mathlib.Core.Bool.{Bool, true, false}
-use lib.ListN.{length, get_or, length-append}
-use Rattle.model.specs.Bytes.{Bytes, Metadata, same_bytes, bit, u16}
+use mathlib.Core.Bool.{Bool, true}
+use lib.ListN.{length, length-append}
+use Rattle.model.specs.Bytes.{Bytes, Metadata, same_bytes, u16}
 use Rattle.model.specs.Tree.{Head}
 use Rattle.model.specs.Equal.{same_metadata}
 use Rattle.model.specs.Sheet.{front_bytes, each, part, stands, with_count, text_bytes, pair_bytes, head_bytes}
 use Rattle.model.proofs.ByteStrings.{same_bytes_eq, same_bytes_refl}
 use Rattle.model.proofs.Equivalences.{metadata_equivalence}
 use Rattle.model.proofs.SameBytes.{by_truth, part_equal, metadata_same_eq}
-use Rattle.walk.specs.Stands.{Stands, Skips}
-use Rattle.walk.proofs.Standing.{first_stands, stands_behind, skip_ahead, skip_join}
-use Rattle.walk.proofs.Parts.{Ahead, part_if, front_stands, map_stands}
-use Rattle.model.proofs.MapBits.{name_set}
+use Rattle.walk.specs.Stands.{Stands, Skips, SkipsName}
+use Rattle.walk.proofs.Standing.{first_stands, stands_behind, skip_ahead}
+use Rattle.walk.proofs.Parts.{front_stands}
 use Rattle.datatype.specs.Comparisons.{PairsAt}
 use Rattle.datatype.proofs.Texts.{Stretches}
 
@@ -35,16 +34,13 @@ part_counted (p ∷ m) never = counted_long (p ∷ m)
 
 -- Behind the name
 
--- what `skip_name` ensures
+-- behind a name begins the metadata
 abbrev pub NameEnds : Bytes → ℕ → ℕ → Type 0
 NameEnds s place r = (h : Head) → Stands s place (head_bytes h) → r ≡ place + 1 + length (part text_bytes h.name)
 
-pub name_ends : {s : Bytes} {place map name r : ℕ} {n : Bool} → map ≡ get_or s place 0 → Ahead s place 1 name
-    → n ≡ bit 2 map → (n ≡ true → (t : Bytes) → Skips s name (text_bytes t) r) → (n ≡ false → r ≡ name) → NameEnds s place r
-unfolding front_bytes bit
-name_ends e a i f g h st =
-    let k = skip_join (skip_ahead (_ ∷ []) refl a.1) (part_if text_bytes _ f g h.name (sym (i ∙ ap (bit 2) (map_stands e h st) ∙ name_set h))) in
-    omega (arith, k.behind (first_stands (_ ∷ part text_bytes h.name) _ (front_stands h st)))
+pub name_ends : {s : Bytes} {place r : ℕ} → SkipsName s place r → NameEnds s place r
+unfolding front_bytes
+name_ends n h st = let front = front_stands h st in omega (arith, (n h front).behind (first_stands (_ ∷ part text_bytes h.name) _ front))
 
 module _ {s : Bytes} {place name : ℕ} (n : NameEnds s place name) (h : Head) (st : Stands s place (head_bytes h)) where
   metadata_stands : Stands s name (part (with_count pair_bytes) h.metadata)

@@ -17,7 +17,6 @@ use Rattle.buffer.specs.Refusals.{number_of}
 use Rattle.buffer.specs.declared.refusal.Number.{Number}
 use Rattle.walk.specs.Stands.{Stands}
 use Rattle.walk.proofs.Standing.{first_stands, stands_behind}
-use Rattle.datatype.proofs.Texts.{pair_skips}
 use Rattle.table.specs.Held.{Held}
 use Rattle.table.specs.Table.{u24, no_place, places_bytes, Refer, none_left, Places}
 use Rattle.table.specs.Says.{Merged}
@@ -25,7 +24,7 @@ use Rattle.std.proofs.Common.{Ok, Err}
 use Rattle.table.proofs.Held.{held_as, held_stands}
 use Rattle.metadata.specs.Pairs.{Cut}
 use Rattle.metadata.specs.Merges.{SaysRow, PutsPair, MergesPairs}
-use Rattle.metadata.proofs.Texts.{SkipsText, pair_long}
+use Rattle.metadata.proofs.Texts.{SkipsPair, pair_long}
 use Rattle.table.proofs.Places.{length_each_place, length_places, refer_append, places_fit, places_join}
 use Rattle.metadata.proofs.Finding.{FindsKey}
 
@@ -150,9 +149,9 @@ module _ {s w w' : Bytes} {number from spot end place left : ℕ} {r : Merged} (
                 ∙ ap (λ t. merge_metadata number t (p ∷ ps)) (ap (λ t. k.passed ++ t) c.pairs ∙ sym (append_assoc k.passed c.before c.after));
           }
 
-  left_again : {next value place' left' : ℕ} → length w' ≡ length w → r ≡ Ok next → SkipsText s place value → SkipsText s value place' → left ≡ left' + 1 → Left s w' number spot next place' left' x z b whole
+  left_again : {next place' left' : ℕ} → length w' ≡ length w → r ≡ Ok next → SkipsPair s place place' → left ≡ left' + 1 → Left s w' number spot next place' left' x z b whole
   unfolding merge_metadata
-  left_again size i key value one =
+  left_again size i pair one =
       let t = turn in
       let c = t.cut in
       let u = t.says i in
@@ -174,7 +173,7 @@ module _ {s w w' : Bytes} {number from spot end place left : ℕ} {r : Merged} (
             let after = (keys_lower k.seen (t.p ∷ []) q qs (subst (λ n. Each WellFormedPair k.seen (t.p ∷ n)) e sorted)).0 in
             every_map (λ o. below o.0 t.p.0 ≡ true) (λ o. below o.0 q.0 ≡ true) (λ o h. below_transitive o.0 t.p.0 q.0 h after) (k.passed ++ c.before) t.low;
         counts = omega (arith, k.counts, ap length t.rests, one);
-        stands = stands_behind (pair_skips key value t.p) (subst (λ n. Stands s place (each pair_bytes n)) t.rests k.stands);
+        stands = stands_behind (pair t.p) (subst (λ n. Stands s place (each pair_bytes n)) t.rests k.stands);
         fits = omega (arith, k.fits, u.fits, t.long, t.total);
         all = omega (arith, k.all, size);
         is = t.starts ∙ gives.pour_next (merge_pair number) ((k.passed ++ c.before) ++ c.after) t.p t.ps ((k.passed ++ c.before) ++ u.value) (past_done number (k.passed ++ c.before) c.after t.p t.low u.value u.is);
@@ -189,9 +188,9 @@ module _ {s w w' : Bytes} {number from spot end place left : ℕ} {r : Merged} (
 
 module _ {s w₀ w w' : Bytes} {used row q count number from spot end place left : ℕ} (k : Pouring s w₀ w used row q count number from end place left) where
   module _ {r : Merged} (more : 0 < left) (find : FindsKey s w from place spot) (puts : PutsPair spot place number s w end w' r) where
-    pub pour_again : {next value place' left' : ℕ} → length w' ≡ length w → r ≡ Ok next → SkipsText s place value → SkipsText s value place' → left ≡ left' + 1 → Pouring s w₀ w' used row q count number spot next place' left'
-    pour_again size i key value one = record {
-      rest = λ x y z j m new h hx pl n st sorted small room. left_again find puts more small (k.rest x y z j m new h hx pl n st sorted small room) size i key value one;
+    pub pour_again : {next place' left' : ℕ} → length w' ≡ length w → r ≡ Ok next → SkipsPair s place place' → left ≡ left' + 1 → Pouring s w₀ w' used row q count number spot next place' left'
+    pour_again size i pair one = record {
+      rest = λ x y z j m new h hx pl n st sorted small room. left_again find puts more small (k.rest x y z j m new h hx pl n st sorted small room) size i pair one;
     }
 
     -- a clash of one pair is that of all

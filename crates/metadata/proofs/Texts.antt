@@ -13,6 +13,9 @@ use Rattle.walk.proofs.Parts.{Ahead}
 use Rattle.datatype.proofs.Texts.{Texts}
 
 -- what `skip_text` ensures
+abbrev pub SkipsPair : Bytes → ℕ → ℕ → Type 0
+SkipsPair s place r = (p : Bytes × Bytes) → Skips s place (pair_bytes p) r
+
 abbrev pub SkipsText : Bytes → ℕ → ℕ → Type 0
 SkipsText s place r = (t : Bytes) → Skips s place (text_bytes t) r
 

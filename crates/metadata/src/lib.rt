@@ -89,26 +89,17 @@ pub fn merge_pairs(
     for _ in 0..pairs.count {
         from = find_key(table, from, place);
         put_pair(table, from, place, clash)?;
-        place = walk::skip_text(train, walk::skip_text(train, place));
+        place = walk::skip_pair(train, place);
     }
     Ok(())
-}
-
-// Where the metadata of a field of the train begins: behind its name.
-fn skip_name(s: &[u8], at: usize) -> usize
-    ensures { (h : Head) → Stands s.now at (head_bytes h) → result ≡ at + 1 + length (part text_bytes h.name) }
-{
-    let map = walk::byte(s, at);
-    let name = walk::ahead(s, at, 1);
-    walk::skip_if(s, name, walk::bit(map, 2), walk::skip_text)
 }
 
 // Whether two fields of the train have the same metadata.
 fn same_metadata(s: &[u8], a: usize, b: usize) -> bool
     ensures { (h g : Head) → Stands s.now a (head_bytes h) → Stands s.now b (head_bytes g) → result ≡ same_metadata h.metadata g.metadata }
 {
-    let from = skip_name(s, a);
-    let since = skip_name(s, b);
+    let from = walk::skip_name(s, a);
+    let since = walk::skip_name(s, b);
     same_stretch(
         s,
         from,

@@ -13,7 +13,7 @@ loop-preserved c =
     let find = rw same.train at c.find_key-from.ensures in
     let p = c.put_pair.ensures in
     let (on, puts) = merges_on same p in
-    (on, pour_again k (omega arith) find puts p.same.size (went p c.in_ok-put_pair.was) c.skip_text.ensures c.skip_text-place.ensures (omega arith))
+    (on, pour_again k (omega arith) find puts p.same.size (went p c.in_ok-put_pair.was) c.skip_pair-place.ensures (omega arith))
 
 pub returns-in_err-put_pair : goal.returns-in_err-put_pair
 returns-in_err-put_pair c =
