@@ -5,4 +5,4 @@ use Rattle.schema.proofs.index_of.Goals as goal
 
 pub returns : goal.returns
 unfolding index_of_answer
-returns c = c.on_sheet.ensures _ λ x fits same w a w' a' r room p. search rules
+returns c = c.on_sheet.ensures _ (search rules)
