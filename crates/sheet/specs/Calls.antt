@@ -15,3 +15,7 @@ abbrev pub AnswersSheet : (post : MutBor Bytes → MutBor Bytes → Result ℕ R
 AnswersSheet post f s =
     (x : Schema) → Fits x → s ≡ sheet_bytes x → (w a w' a' : MutBor Bytes) (r : Result ℕ Refusal) → work_bytes_per_sheet_byte * length s ≤ length w.now → post w a r w' a'
     → leaves r a'.now w'.now ≡ settled (f x) (zeros (length w.now)) a.now
+
+-- it may be called of a sheet that was read, with room in the work buffer
+abbrev pub TakesSheet : (pre : MutBor Bytes → MutBor Bytes → Type 0) → Bytes → Type 0
+TakesSheet pre s = (x : Schema) → Fits x → s ≡ sheet_bytes x → (w a : MutBor Bytes) → work_bytes_per_sheet_byte * length s ≤ length w.now → pre w a

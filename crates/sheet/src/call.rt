@@ -4,7 +4,7 @@ ghost use Rattle.model.specs.Tree.{Schema};
 ghost use Rattle.model.specs.Read.{read_sheet};
 ghost use Rattle.model.specs.Call.{Answer, and_then, call};
 ghost use Rattle.buffer.specs.Leaves.{leaves};
-ghost use Rattle.sheet.specs.Calls.{AnswersSheet};
+ghost use Rattle.sheet.specs.Calls.{TakesSheet, AnswersSheet};
 
 use buffer::Refusal;
 
@@ -15,7 +15,7 @@ pub fn on_sheet<F: FnOnce(&mut [u8], &mut [u8]) -> Result<usize, Refusal>>(
     answer: &mut [u8],
     answered: F,
 ) -> Result<usize, Refusal>
-    requires { F.IsAlwaysCallable answered }
+    requires { TakesSheet (F.pre answered) sheet.now }
     ensures { (f : Schema → Answer) → AnswersSheet (F.post answered) f sheet.now → leaves result answer.new work.new ≡ call (length sheet.now) (and_then (read_sheet sheet.now) f) work.old answer.old }
 {
     buffer::work_fits(work.len(), sheet.len())?;
