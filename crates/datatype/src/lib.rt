@@ -23,6 +23,7 @@ ghost use Rattle.datatype.specs.Comparisons.{compare_call};
 
 use buffer::Refusal;
 use compare::{Comparer, Comparison};
+use sheet::call::on_sheet;
 use sheet::Cursor;
 use walk::Elements;
 
@@ -178,12 +179,8 @@ fn answer_nested(sheet: &[u8], answer: &mut [u8]) -> Result<usize, Refusal>
 pub fn is_nested(sheet: &[u8], work: &mut [u8], answer: &mut [u8]) -> Result<usize, Refusal>
     ensures { leaves result answer.new work.new ≡ is_nested_call sheet.now work.old answer.old }
 {
-    buffer::work_fits(work.len(), sheet.len())?;
-    match sheet::read_sheet(sheet) {
-        Err(refusal) => buffer::refuse(work, refusal),
-        Ok(_) => {
-            buffer::clear(work);
-            answer_nested(sheet, answer)
-        }
-    }
+    on_sheet(sheet, work, answer, |work, answer| {
+        buffer::clear(work);
+        answer_nested(sheet, answer)
+    })
 }
