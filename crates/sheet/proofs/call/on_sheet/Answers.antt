@@ -1,24 +1,33 @@
--- `on_sheet`: 32, the reader's refusal, or what is answered.
+-- `on_sheet`: what is read is a sheet.
+use mathlib.Core.Path.{◌≡◌, refl, ◌∙◌}
 use mathlib.Core.List.{[]}
+use lib.ListN.{length}
+use Prim.Native.Nat.{◌*◌, ◌≤◌}
+use native.Mathlib.Omega.{arith}
+use Rattle.std.specs.Prelude.{Ok, Err}
+use Rattle.std.proofs.Common.{rules}
+use Rattle.model.specs.Numbers.{work_bytes_per_sheet_byte}
+use Rattle.model.specs.Read.{read_sheet}
 use Rattle.model.specs.Call.{bytes}
+use Rattle.buffer.specs.Refusals.{numbered}
 use Rattle.buffer.proofs.Room.{room_enough}
-use Rattle.buffer.proofs.Ends.{handed_up, call_short, call_refused, call_settled, settled_as}
+use Rattle.buffer.proofs.Ends.{settled_as}
+use Rattle.sheet.specs.Answers.{step_of}
 use Rattle.sheet.proofs.Reading.{sheet_refused, sheet_whole}
 use Rattle.sheet.proofs.call.on_sheet.Goals as goal
 
-pub answered-requires : goal.answered-requires
-answered-requires g c =
-    let w = sheet_whole _ (λ x. bytes []) c.read_sheet.ensures (λ k. (c.type_inv.sheet k).fits) c.in-Ok.is in
-    c.requires w.schema w.fits w.bytes _ _ (room_enough _ _ c.work_fits.ensures c.in_ok-work_fits.was)
+pub on_read-requires-clause-answering : goal.on_read-requires-clause-answering
+on_read-requires-clause-answering g c = λ n p fits w a e.
+    let read : numbered (Ok n) ≡ step_of (read_sheet c.args.sheet.now) = search rules in
+    let v = sheet_whole _ (λ x. bytes []) read (λ k. (c.type_inv.sheet k).fits) refl in
+    let room : work_bytes_per_sheet_byte * length c.args.sheet.now ≤ length w.now = omega (arith, room_enough _ _ c.work_fits-fits.ensures fits, e) in
+    c.requires v.schema v.fits v.bytes w a room
 
-pub returns-in_err-work_fits : goal.returns-in_err-work_fits
-returns-in_err-work_fits g c f h = call_short _ _ _ _ c.work_fits.ensures c.in_err-work_fits.was (handed_up _ c.from_residual.ensures.1)
-
-pub returns-in-Err : goal.returns-in-Err
-returns-in-Err g c f h = call_refused _ _ _ _ c.work_fits.ensures c.in_ok-work_fits.was (sheet_refused _ f c.read_sheet.ensures c.in-Err.is) c.refuse.ensures.0 c.refuse.ensures.1
-
-pub returns-in-Ok : goal.returns-in-Ok
-returns-in-Ok g c f h =
-    let w = sheet_whole _ f c.read_sheet.ensures (λ k. (c.type_inv.sheet k).fits) c.in-Ok.is in
-    let room = room_enough _ _ c.work_fits.ensures c.in_ok-work_fits.was in
-    call_settled _ _ _ _ c.work_fits.ensures c.in_ok-work_fits.was (settled_as _ _ w.outcome (h w.schema w.fits w.bytes _ _ _ _ _ room c.answered.ensures))
+pub returns : goal.returns
+returns g c = λ f h.
+    c.on_read.ensures _ _ c.work_fits-fits.ensures
+    (λ x p. let read : numbered (Err x) ≡ step_of (read_sheet c.args.sheet.now) = search rules in sheet_refused _ f read refl)
+    λ n p w a w' a' r room q.
+    let read : numbered (Ok n) ≡ step_of (read_sheet c.args.sheet.now) = search rules in
+    let v = sheet_whole _ f read (λ k. (c.type_inv.sheet k).fits) refl in
+    settled_as _ _ v.outcome (h v.schema v.fits v.bytes w a w' a' r room q)
