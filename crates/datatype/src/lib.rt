@@ -23,8 +23,8 @@ ghost use Rattle.datatype.specs.Comparisons.{compare_call};
 
 use buffer::Refusal;
 use compare::{Comparer, Comparison};
-use sheet::call::on_sheet;
 use sheet::Cursor;
+use sheet::call::{on_read, on_sheet};
 use walk::Elements;
 
 // Whether two types are equal, of at most so many levels.
@@ -103,18 +103,16 @@ fn answer_comparison(
 ) -> Result<usize, Refusal>
     ensures { leaves result answer.new work.new ≡ compare_call how sheet.now other.now work.old answer.old }
 {
-    buffer::work_fits_two(work.len(), sheet.len(), other.len())?;
-    match sheet::read_two(sheet, other) {
-        Err(refusal) => buffer::refuse(work, refusal),
-        Ok(_) => {
-            let both = Comparer {
-                own: sheet,
-                other,
-                how,
-            };
-            buffer::accept_byte(work, answer, u8::from(both.compare_sheets()))
-        }
-    }
+    let fits = buffer::work_fits_two(work.len(), sheet.len(), other.len());
+    let read = || sheet::read_two(sheet, other);
+    on_read(fits, read, work, answer, |work, answer| {
+        let both = Comparer {
+            own: sheet,
+            other,
+            how,
+        };
+        both.answer(work, answer)
+    })
 }
 
 // `==` of `DataType`.
