@@ -19,6 +19,4 @@ returns c =
     λ n p w a w' a' r room q.
     let read : numbered (Ok n) ≡ step_of (read_two given.sheet.now given.other.now) = search rules in
     let v = two_whole _ _ _ read (λ i. (c.type_inv.sheet i).fits) (λ i. (c.type_inv.other i).fits) refl in
-    let (first, second) = v.bytes in
-    let (fits, other_fits) = v.fits in
-    settled_as _ _ v.outcome (search rules)
+    settled_as _ _ v.outcome (search (rules, v))
