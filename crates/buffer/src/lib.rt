@@ -7,7 +7,7 @@
 
 mod refusal;
 
-ghost use Rattle.std.specs.Prelude.{◌≡◌, [], ◌∷◌, ◌+◌, ◌*◌, ◌/◌, ◌%◌, ◌≤◌, ◌<◌, length, ltb, Ok, Err};
+ghost use Rattle.std.specs.Prelude.{◌≡◌, [], ◌∷◌, ◌+◌, ◌*◌, ◌/◌, ◌%◌, ◌≤◌, ◌<◌, length, take, ltb, Ok, Err};
 ghost use Rattle.model.specs.Numbers.{work_bytes_per_sheet_byte};
 ghost use Rattle.model.specs.Bytes.{Bytes, u16};
 ghost use Rattle.model.specs.Call.{zeros, acceptance};
@@ -191,6 +191,16 @@ pub fn accept(work: &mut [u8], answer: &mut [u8], bytes: &[u8]) -> Result<usize,
 {
     clear(work);
     write_answer(answer, bytes)
+}
+
+// The same where the answer lies at the work buffer's own start.
+pub fn accept_written(work: &mut [u8], written: usize, answer: &mut [u8]) -> Result<usize, Refusal>
+    requires { written ≤ length work.old }
+    ensures { leaves result answer.new work.new ≡ acceptance (take written work.old) (zeros (length work.old)) answer.old }
+{
+    let answered = write_answer(answer, &work[..written]);
+    clear(work);
+    answered
 }
 
 // "one byte, 1 for yes and 0 for no"

@@ -6,13 +6,16 @@ ghost use Rattle.model.specs.Bytes.{Every, same, all, any};
 ghost use Rattle.model.specs.Tree.{Head, DataType, Field, Schema, layout};
 ghost use Rattle.model.specs.Tree.Children.{counted, counted_with_ids};
 ghost use Rattle.model.specs.Sheet.{each, head_bytes, field_bytes, children_bytes, type_bytes, sheet_bytes};
-ghost use Rattle.model.specs.WellFormed.{CountFits, LaidOut, Whole, Child};
+ghost use Rattle.model.specs.WellFormed.{CountFits, LaidOut, Whole, Child, Fits};
+ghost use Rattle.model.specs.Call.{yes_no, settled, zeros};
+ghost use Rattle.buffer.specs.Leaves.{leaves};
 ghost use Rattle.layout.specs.Kinds.{children_of};
 ghost use Rattle.walk.specs.Stands.{Stands, Skips};
 ghost use Rattle.datatype.specs.Children.{child_bytes};
 ghost use Rattle.datatype.specs.Comparisons.{same_head, contains_head, compare_head, compare_type, compare_field, compare_child, compare_members, compare_children, compare_schema, by_id, below, counts_agree};
 
 use crate::metadata::{contains_metadata, of_head, of_sheet, same_name, same_stretch};
+use buffer::Refusal;
 use layout::{ChildrenKind, RUN_END_ENCODED, UNION};
 use sheet::Cursor;
 use walk::Elements;
@@ -308,7 +311,7 @@ impl Comparer<'_> {
     }
 
     // Two sheets: "both equalities take each sheet as the Struct of its columns", `Schema::contains` compares schema metadata too.
-    pub fn compare_sheets(&self) -> bool
+    fn compare_sheets(&self) -> bool
         ensures { (x y : Schema) → Every (Child 32 counted) x.columns → Every (Child 32 counted) y.columns → Stands self.now.own.now 0 (sheet_bytes x) → Stands self.now.other.now 0 (sheet_bytes y) → result ≡ compare_schema self.now.how x y }
     {
         if !self.compare_columns() {
@@ -322,5 +325,12 @@ impl Comparer<'_> {
                 contains_metadata(self.own, all, self.other, asked)
             }
         }
+    }
+
+    // What is answered of two sheets that were read: "one byte, 1 for yes and 0 for no".
+    pub fn answer(&self, work: &mut [u8], answer: &mut [u8]) -> Result<usize, Refusal>
+        ensures { (x y : Schema) → Fits x → Fits y → self.now.own.now ≡ sheet_bytes x → self.now.other.now ≡ sheet_bytes y → leaves result answer.new work.new ≡ settled (yes_no (compare_schema self.now.how x y)) (zeros (length work.old)) answer.old }
+    {
+        buffer::accept_byte(work, answer, u8::from(self.compare_sheets()))
     }
 }

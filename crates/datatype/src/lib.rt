@@ -24,6 +24,7 @@ ghost use Rattle.datatype.specs.Comparisons.{compare_call};
 use buffer::Refusal;
 use compare::{Comparer, Comparison};
 use sheet::Cursor;
+use sheet::call::{on_read, on_sheet};
 use walk::Elements;
 
 // Whether two types are equal, of at most so many levels.
@@ -102,18 +103,16 @@ fn answer_comparison(
 ) -> Result<usize, Refusal>
     ensures { leaves result answer.new work.new ≡ compare_call how sheet.now other.now work.old answer.old }
 {
-    buffer::work_fits_two(work.len(), sheet.len(), other.len())?;
-    match sheet::read_two(sheet, other) {
-        Err(refusal) => buffer::refuse(work, refusal),
-        Ok(_) => {
-            let both = Comparer {
-                own: sheet,
-                other,
-                how,
-            };
-            buffer::accept_byte(work, answer, u8::from(both.compare_sheets()))
-        }
-    }
+    let fits = buffer::work_fits_two(work.len(), sheet.len(), other.len());
+    let read = || sheet::read_two(sheet, other);
+    on_read(fits, read, work, answer, |work, answer| {
+        let both = Comparer {
+            own: sheet,
+            other,
+            how,
+        };
+        both.answer(work, answer)
+    })
 }
 
 // `==` of `DataType`.
@@ -178,12 +177,8 @@ fn answer_nested(sheet: &[u8], answer: &mut [u8]) -> Result<usize, Refusal>
 pub fn is_nested(sheet: &[u8], work: &mut [u8], answer: &mut [u8]) -> Result<usize, Refusal>
     ensures { leaves result answer.new work.new ≡ is_nested_call sheet.now work.old answer.old }
 {
-    buffer::work_fits(work.len(), sheet.len())?;
-    match sheet::read_sheet(sheet) {
-        Err(refusal) => buffer::refuse(work, refusal),
-        Ok(_) => {
-            buffer::clear(work);
-            answer_nested(sheet, answer)
-        }
-    }
+    on_sheet(sheet, work, answer, |work, answer| {
+        buffer::clear(work);
+        answer_nested(sheet, answer)
+    })
 }

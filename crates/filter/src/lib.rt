@@ -3,13 +3,18 @@
 // what it keeps where the part that it is for stands there.
 #![tactic(auto)]
 
-ghost use Rattle.std.specs.Prelude.{◌≡◌};
-ghost use Rattle.model.specs.Call.{filter_call};
+ghost use Rattle.std.specs.Prelude.{◌≡◌, ◌*◌, ◌≤◌, length};
+ghost use Rattle.model.specs.Tree.{Schema};
+ghost use Rattle.model.specs.Sheet.{sheet_bytes};
+ghost use Rattle.model.specs.WellFormed.{Fits};
+ghost use Rattle.model.specs.Filter.{filter_leaves};
+ghost use Rattle.model.specs.Call.{sheet_answer, settled, zeros, filter_call};
 ghost use Rattle.buffer.specs.Leaves.{leaves};
 ghost use Rattle.filter.specs.Filters.{CopiesTo, FiltersLeaf, FiltersType, FiltersField, FiltersChild, FiltersRow, FiltersCounted, FiltersChildren, FiltersNested, FiltersInner, FiltersEncoded, FiltersSheet, FiltersColumns, reached, taken_back};
 
 use buffer::{Number, Output, Refusal};
 use layout::{DICTIONARY, RUN_END_ENCODED, STRUCT, UNION};
+use sheet::call::on_sheet;
 use sheet::Cursor;
 use walk::Elements;
 
@@ -232,7 +237,32 @@ impl Sieve<'_> {
     }
 }
 
-// `Fields::try_filter_leaves`. "Keeping schema metadata is added." The leaves are counted on the way, and 12 is decided at the end.
+// What is answered of a sheet that was read: 12, or the filtered sheet. The leaves are counted on the way, and 12 is decided at the end.
+fn answer_filtered(
+    sheet: &[u8],
+    mask: &[u8],
+    work: &mut [u8],
+    answer: &mut [u8],
+) -> Result<usize, Refusal>
+    requires { (x : Schema) × Fits x × (sheet.now ≡ sheet_bytes x) × (4 * length sheet.now ≤ length work.old) }
+    ensures { (x : Schema) → Fits x → sheet.now ≡ sheet_bytes x → 4 * length sheet.now ≤ length work.old → leaves result answer.new work.new ≡ settled (sheet_answer (filter_leaves x mask.now)) (zeros (length work.old)) answer.old }
+{
+    let mut sieve = Sieve {
+        sheet,
+        mask,
+        at: 0,
+        leaf: 0,
+    };
+    let mut out = Output::new(work);
+    sieve.filter_sheet(&mut out);
+    let written = out.written;
+    if sieve.leaf != mask.len() {
+        return buffer::refuse(work, Refusal::from(Number::MaskLength));
+    }
+    buffer::accept_written(work, written, answer)
+}
+
+// `Fields::try_filter_leaves`. "Keeping schema metadata is added."
 pub fn filter(
     sheet: &[u8],
     mask: &[u8],
@@ -241,25 +271,7 @@ pub fn filter(
 ) -> Result<usize, Refusal>
     ensures { leaves result answer.new work.new ≡ filter_call sheet.now mask.now work.old answer.old }
 {
-    buffer::work_fits(work.len(), sheet.len())?;
-    match sheet::read_sheet(sheet) {
-        Err(refusal) => buffer::refuse(work, refusal),
-        Ok(_) => {
-            let mut sieve = Sieve {
-                sheet,
-                mask,
-                at: 0,
-                leaf: 0,
-            };
-            let mut out = Output::new(work);
-            sieve.filter_sheet(&mut out);
-            let written = out.written;
-            if sieve.leaf != mask.len() {
-                return buffer::refuse(work, Refusal::from(Number::MaskLength));
-            }
-            let answered = buffer::write_answer(answer, &work[..written]);
-            buffer::clear(work);
-            answered
-        }
-    }
+    on_sheet(sheet, work, answer, |work, answer| {
+        answer_filtered(sheet, mask, work, answer)
+    })
 }

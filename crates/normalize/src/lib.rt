@@ -17,6 +17,7 @@ ghost use Rattle.normalize.specs.Expands.{Above, prefix, Measures, ExpandsColumn
 
 use buffer::{Number, Output, Refusal};
 use layout::STRUCT;
+use sheet::call::on_sheet;
 use sheet::Cursor;
 use std::marker::Model;
 use walk::Elements;
@@ -266,16 +267,12 @@ pub fn normalize(
 ) -> Result<usize, Refusal>
     ensures { leaves result answer.new work.new ≡ normalize_call sheet.now separator.now max_level work.old answer.old }
 {
-    buffer::work_fits(work.len(), sheet.len())?;
-    match sheet::read_sheet(sheet) {
-        Err(refusal) => buffer::refuse(work, refusal),
-        Ok(_) => {
-            let expansion = Expansion {
-                sheet,
-                separator,
-                max_level,
-            };
-            expansion.answer(work, answer)
-        }
-    }
+    on_sheet(sheet, work, answer, |work, answer| {
+        let expansion = Expansion {
+            sheet,
+            separator,
+            max_level,
+        };
+        expansion.answer(work, answer)
+    })
 }

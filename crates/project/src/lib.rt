@@ -21,6 +21,7 @@ ghost use Rattle.project.specs.Seen.{index_fits_by, marked};
 ghost use Rattle.project.specs.Table.{Table};
 
 use buffer::{Number, Output, Refusal};
+use sheet::call::on_sheet;
 use sheet::Cursor;
 use walk::Elements;
 
@@ -190,11 +191,9 @@ fn project_by(
 ) -> Result<usize, Refusal>
     ensures { leaves result answer.new work.new ≡ project_call strict sheet.now list.now work.old answer.old }
 {
-    buffer::work_fits(work.len(), sheet.len())?;
-    match sheet::read_sheet(sheet) {
-        Err(refusal) => buffer::refuse(work, refusal),
-        Ok(_) => project_read(sheet, list, strict, work, answer),
-    }
+    on_sheet(sheet, work, answer, |work, answer| {
+        project_read(sheet, list, strict, work, answer)
+    })
 }
 
 // `Schema::project`: the columns of the list's entries, in the list's order.

@@ -11,7 +11,8 @@ use Rattle.model.specs.Tree.{Field, Schema}
 use Rattle.model.specs.Sheet.{each, part, with_count, pair_bytes, column_bytes, sheet_bytes}
 use Rattle.model.specs.Read.{read_sheet}
 use Rattle.model.specs.Schema.{each_at, flattened_fields}
-use Rattle.model.specs.Call.{Answer, bytes, refused, flattened_fields_answer, flattened_fields_call, zeros, acceptance}
+use Rattle.model.specs.Call.{Exit, bytes, settled, zeros, acceptance}
+use Rattle.model.specs.WellFormed.{Fits}
 use Rattle.model.proofs.WellFormed.{columns_laid_out}
 use Rattle.model.proofs.Flattened.{length_numbers, flattened_no_longer, flattened_half}
 use Rattle.sheet.specs.Answers.{step_of}
@@ -75,41 +76,29 @@ fields_listed {s} {o₁ = o₁} {o₂} {first = first} {r} f two g all e h = rec
       (all _ (puts_join (0 ∷ 0 ∷ []) (each u16 ns) two (p.does j a.stands).1)) e h;
 }
 
--- The call: the refusal, or the offsets
+-- What is answered of a sheet that was read: the offsets
 
-abbrev pub answered : Schema → Answer
-answered x = bytes (with_count u16 (flattened_fields x))
-
-pub fields_refused : (s : Bytes) {read : Result ℕ Refusal} {x : Refusal} → numbered read ≡ step_of (read_sheet s) → read ≡ Err x → flattened_fields_answer s ≡ refused (number_of x.0) x.1
-unfolding flattened_fields_answer
-fields_refused s e h = sheet_refused s answered e h
-
-module _ {s : Bytes} (a : Whole s answered) where
+module _ (x : Schema) {s w w' : Bytes} {r : ℕ} (fits : Fits x) (e : s ≡ sheet_bytes x) (enough : work_bytes_per_sheet_byte * length s ≤ length w) (g : Listed s w w' r) where
   abbrev listing : Bytes
-  listing = with_count u16 (flattened_fields a.schema)
-
-  answer_bytes : flattened_fields_answer s ≡ bytes listing
-  unfolding flattened_fields_answer
-  answer_bytes = a.outcome
+  listing = with_count u16 (flattened_fields x)
 
   sheet_size : 1 ≤ length s
   unfolding sheet_bytes
-  sheet_size = omega (arith, ap length a.bytes)
+  sheet_size = omega (arith, ap length e)
 
-  module _ {fits : Result Unit Refusal} {w w' : Bytes} {r : ℕ} (tested : fits ≡ unless_short (ltb (length w) (work_bytes_per_sheet_byte * length s))) (h : fits ≡ Ok tt) (g : Listed s w w' r) where
-    room : length listing ≤ length w
-    room = omega (arith, room_enough (length w) (length s) tested h, sheet_size, flattened_no_longer a.schema, ap length a.bytes)
+  room : length listing ≤ length w
+  room = omega (arith, enough, sheet_size, flattened_no_longer x, ap length e)
 
-    written : (r ≡ length listing) × (w' ≡ pasted w 0 listing)
-    written = g.listed a.schema a.fits.well_formed a.bytes (omega (arith, a.fits.size, ap length a.bytes)) room
+  written : (r ≡ length listing) × (w' ≡ pasted w 0 listing)
+  written = g.listed x fits.well_formed e (omega (arith, fits.size, ap length e)) room
 
-    pub end_inside : r ≤ length w'
-    end_inside = omega (arith, written.0, room, ap length written.1, length_pasted w 0 listing (omega (arith, room)))
+  same_length : length w' ≡ length w
+  same_length = ap length written.1 ∙ length_pasted w 0 listing (omega (arith, room))
 
-    pub call_listed : (o : Result ℕ Refusal) {work : Bytes} (answer answer' : Bytes) → ((z : Bytes) → leaves o answer' z ≡ acceptance (take r w') z answer) → work ≡ zeros (length w')
-        → leaves o answer' work ≡ flattened_fields_call s w answer
-    call_listed o {work} answer answer' f z =
-        let len : length w' ≡ length w = ap length written.1 ∙ length_pasted w 0 listing (omega (arith, room)) in
-        let same : take r w' ≡ listing = ap (take r) written.1 ∙ take_pasted w listing r written.0 in
-        call_answered (length s) (flattened_fields_answer s) w answer tested h answer_bytes
-        (ap (λ z. leaves o answer' z) (z ∙ ap zeros len) ∙ f (zeros (length w)) ∙ ap (λ b. acceptance b (zeros (length w)) answer) same)
+  pub listed_inside : r ≤ length w'
+  listed_inside = omega (arith, written.0, room, same_length)
+
+  pub listed_answered : {exit : Exit} (answer : Bytes) → exit ≡ acceptance (take r w') (zeros (length w')) answer → exit ≡ settled (bytes listing) (zeros (length w)) answer
+  unfolding settled
+  listed_answered answer h =
+      h ∙ ap (λ b. acceptance b (zeros (length w')) answer) (ap (take r) written.1 ∙ take_pasted w listing r written.0) ∙ ap (λ n. acceptance listing (zeros n) answer) same_length

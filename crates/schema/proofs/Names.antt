@@ -13,7 +13,7 @@ use Rattle.model.specs.Bytes.{Bytes, Every, bit, position, same, same_bytes, u16
 use Rattle.model.specs.Tree.{Head, Field, Schema}
 use Rattle.model.specs.Sheet.{each, text_bytes, head_bytes, column_bytes, sheet_bytes}
 use Rattle.model.specs.WellFormed.{LaidOut, Fits}
-use Rattle.model.specs.Schema.{if_found}
+use Rattle.model.specs.Schema.{if_found, index_of}
 use Rattle.model.specs.Call.{bytes, and_then, Exit, refusal, acceptance, settled}
 use Rattle.model.proofs.Lists.{every_append}
 use Rattle.model.proofs.WellFormed.{columns_laid_out}
@@ -29,7 +29,6 @@ use Rattle.walk.proofs.Schemas.{sheet_columns}
 use Rattle.walk.proofs.Descents.{head_stands, name_stands, no_name, body_stands}
 use Rattle.walk.proofs.Passed.{Passed, Here, passed_again, passed_here, passed_done}
 use Rattle.std.specs.Prelude.{Option, Some, None, Result, Err}
-use Rattle.schema.specs.Answers.{Narrow}
 use Rattle.walk.proofs.Standing.{whole_stands, first_stands, two_stands, num_u16}
 use Rattle.walk.proofs.Parts.{Ahead, two_at, bit_true, bit_false}
 
@@ -137,28 +136,19 @@ column_found {s} name find f x fits e =
     let c = find x (whole_stands s (sheet_bytes x) e) in
     f x.columns (sym c.count) (columns_laid_out x fits.well_formed) c.stands
 
--- What is answered
+-- What is answered: m is the code's position of the definition's column
 
--- a position among a sheet's columns is a u16
-pub narrow_found : (x : Schema) → Fits x → (p : Field max_levels → Bool) → Narrow (position p x.columns)
-narrow_found x fits p = go (position p x.columns) refl
-  where
-    go : (f : Option ℕ) → position p x.columns ≡ f → Narrow f
-    go (Some i) h = omega (arith, (position_found p x.columns i h).inside, sheet_columns x, fits.size)
-    go None h = tt
-
-module _ {m : Option ℕ} (work answer : Bytes) where
-  pub index_written : {i : ℕ} {x : Exit} → m ≡ Some i → (i < 65536 → x ≡ acceptance (u16 i) work answer) → Narrow m → x ≡ settled (and_then (if_found m) bytes) work answer
-  unfolding settled and_then if_found
-  index_written {i} {x} h k w = subst (λ m. x ≡ settled (and_then (if_found m) bytes) work answer) (sym h) (k (subst Narrow h w))
+module _ (x : Schema) {m : Option ℕ} (name work answer : Bytes) (found : m ≡ position (has_name name) x.columns) where
+  -- a position among a sheet's columns is a u16
+  pub index_written : {i : ℕ} {e : Exit} → Fits x → m ≡ Some i → (i < 65536 → e ≡ acceptance (u16 i) work answer) → e ≡ settled (and_then (index_of x name) bytes) work answer
+  unfolding settled and_then if_found index_of
+  index_written {i} fits h k =
+      let there : position (has_name name) x.columns ≡ Some i = sym found ∙ h in
+      rw there (k (omega (arith, (position_found (has_name name) x.columns i there).inside, sheet_columns x, fits.size)))
 
   pub index_missing : {r : Result ℕ Refusal} {after : Bytes} → m ≡ None → r ≡ Err (without_place Number.NoSuchColumn) → after ≡ work
-      → leaves r answer after ≡ settled (and_then (if_found m) bytes) work answer
-  unfolding settled and_then if_found
-  index_missing {r} {after} h k z =
-      subst (λ m. leaves r answer after ≡ settled (and_then (if_found m) bytes) work answer) (sym h)
-      (leaves_refusal (without_place Number.NoSuchColumn) _ answer k ∙ ap (λ v. refusal no_such_column 0 v answer) z)
-
-  -- of a position that is the definition's
-  pub answer_of_position : {p : Option ℕ} {x : Exit} → m ≡ p → (Narrow m → x ≡ settled (and_then (if_found m) bytes) work answer) → Narrow p → x ≡ settled (and_then (if_found p) bytes) work answer
-  answer_of_position {x = x} e k w = subst (λ m. Narrow m → x ≡ settled (and_then (if_found m) bytes) work answer) e k w
+      → leaves r answer after ≡ settled (and_then (index_of x name) bytes) work answer
+  unfolding settled and_then if_found index_of
+  index_missing h k z =
+      let none : position (has_name name) x.columns ≡ None = sym found ∙ h in
+      rw none (leaves_refusal (without_place Number.NoSuchColumn) _ answer k ∙ ap (λ v. refusal no_such_column 0 v answer) z)

@@ -1,3 +1,2 @@
 -- The definitions that the contracts of `schema` cite.
-pub mod Answers
 pub mod Flattens

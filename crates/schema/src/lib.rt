@@ -2,21 +2,21 @@
 // read first; then its bytes are gone over once, with no tree in between.
 #![tactic(auto)]
 
-ghost use Rattle.std.specs.Prelude.{◌≡◌, List, ℕ, length};
+ghost use Rattle.std.specs.Prelude.{◌≡◌, ◌*◌, ◌≤◌, List, ℕ, length};
 ghost use Rattle.model.specs.Numbers.{max_levels};
-ghost use Rattle.model.specs.Bytes.{Bytes, Every, position, same_bytes};
+ghost use Rattle.model.specs.Bytes.{Bytes, Every, position, same_bytes, u16};
 ghost use Rattle.model.specs.Tree.{Head, Field, Schema};
-ghost use Rattle.model.specs.Sheet.{each, text_bytes, head_bytes, column_bytes, sheet_bytes};
+ghost use Rattle.model.specs.Sheet.{each, with_count, text_bytes, head_bytes, column_bytes, sheet_bytes};
 ghost use Rattle.model.specs.WellFormed.{LaidOut, Fits};
-ghost use Rattle.model.specs.Schema.{if_found};
+ghost use Rattle.model.specs.Schema.{index_of, flattened_fields};
 ghost use Rattle.model.specs.Call.{and_then, bytes, settled, zeros, index_of_call, flattened_fields_call};
 ghost use Rattle.buffer.specs.Leaves.{leaves};
 ghost use Rattle.walk.specs.Stands.{Stands};
-ghost use Rattle.schema.specs.Answers.{Narrow};
 ghost use Rattle.schema.specs.Flattens.{FlattensType, FlattensField, FlattensRow, FlattensChildren, Listed};
 
 use buffer::{Number, Output, Refusal};
 use layout::{ChildrenKind, RUN_END_ENCODED};
+use sheet::call::on_sheet;
 use sheet::Cursor;
 use walk::Elements;
 
@@ -62,11 +62,16 @@ fn find_column(s: &[u8], name: &[u8]) -> Option<usize>
     find_name(s, walk::find_columns(s, 0), name)
 }
 
-// "`index_of` writes a u16."
-fn answer_match(m: Option<usize>, work: &mut [u8], answer: &mut [u8]) -> Result<usize, Refusal>
-    ensures { Narrow m → leaves result answer.new work.new ≡ settled (and_then (if_found m) bytes) (zeros (length work.old)) answer.old }
+// "`index_of` writes a u16": the position of the column of a sheet that was read, or 13.
+fn answer_position(
+    sheet: &[u8],
+    name: &[u8],
+    work: &mut [u8],
+    answer: &mut [u8],
+) -> Result<usize, Refusal>
+    ensures { (x : Schema) → Fits x → sheet.now ≡ sheet_bytes x → leaves result answer.new work.new ≡ settled (and_then (index_of x name.now) bytes) (zeros (length work.old)) answer.old }
 {
-    match m {
+    match find_column(sheet, name) {
         Some(i) => buffer::accept_u16(work, answer, i),
         None => buffer::refuse(work, Refusal::from(Number::NoSuchColumn)),
     }
@@ -81,11 +86,9 @@ pub fn index_of(
 ) -> Result<usize, Refusal>
     ensures { leaves result answer.new work.new ≡ index_of_call sheet.now name.now work.old answer.old }
 {
-    buffer::work_fits(work.len(), sheet.len())?;
-    match sheet::read_sheet(sheet) {
-        Err(refusal) => buffer::refuse(work, refusal),
-        Ok(_) => answer_match(find_column(sheet, name), work, answer),
-    }
+    on_sheet(sheet, work, answer, |work, answer| {
+        answer_position(sheet, name, work, answer)
+    })
 }
 
 // `Field::fields`: the place of the field itself, then those of the fields of its type: "parents first". Each of these functions gives the
@@ -164,18 +167,20 @@ fn list_fields(s: &[u8], w: &mut [u8]) -> usize
     end
 }
 
+// The offsets of a sheet that was read.
+fn answer_fields(sheet: &[u8], work: &mut [u8], answer: &mut [u8]) -> Result<usize, Refusal>
+    requires { (x : Schema) × Fits x × (sheet.now ≡ sheet_bytes x) × (4 * length sheet.now ≤ length work.old) }
+    ensures { (x : Schema) → Fits x → sheet.now ≡ sheet_bytes x → 4 * length sheet.now ≤ length work.old → leaves result answer.new work.new ≡ settled (bytes (with_count u16 (flattened_fields x))) (zeros (length work.old)) answer.old }
+{
+    let written = list_fields(sheet, work);
+    buffer::accept_written(work, written, answer)
+}
+
 // `Schema::flattened_fields`: "the count and the offset of each field's map in the sheet".
 pub fn flattened_fields(sheet: &[u8], work: &mut [u8], answer: &mut [u8]) -> Result<usize, Refusal>
     ensures { leaves result answer.new work.new ≡ flattened_fields_call sheet.now work.old answer.old }
 {
-    buffer::work_fits(work.len(), sheet.len())?;
-    match sheet::read_sheet(sheet) {
-        Err(refusal) => buffer::refuse(work, refusal),
-        Ok(_) => {
-            let end = list_fields(sheet, work);
-            let answered = buffer::write_answer(answer, &work[..end]);
-            buffer::clear(work);
-            answered
-        }
-    }
+    on_sheet(sheet, work, answer, |work, answer| {
+        answer_fields(sheet, work, answer)
+    })
 }

@@ -2,6 +2,8 @@
 // sheets, a train. Each answer is the definition's (crates/model, Read), without the tree.
 #![tactic(auto)]
 
+pub mod call;
+
 ghost use Rattle.std.specs.Prelude.{◌≡◌, ◌<◌, ◌≤◌, ◌+◌, length, [], false, true, ◌^◌, not, ◌||◌, eqb, Ok, option_copied};
 ghost use Rattle.model.specs.Bytes.{bit};
 ghost use Rattle.model.specs.Tree.{layout};

@@ -16,6 +16,7 @@ ghost use Rattle.try_merge.specs.Claims.{BeginsTable, MergesSheet, MergesSheets}
 
 use buffer::{Number, Refusal};
 use datatype::metadata::of_sheet;
+use sheet::call::on_read;
 use sheet::Cursor;
 use table::Table;
 
@@ -106,9 +107,9 @@ pub fn merge(
 ) -> Result<usize, Refusal>
     ensures { leaves result answer.new work.new ≡ merge_call parked train.now work.old answer.old }
 {
-    buffer::work_fits(work.len(), train.len())?;
-    match sheet::read_train(train) {
-        Err(refusal) => buffer::refuse(work, refusal),
-        Ok(_) => merge_read(train, work, answer, parked),
-    }
+    let fits = buffer::work_fits(work.len(), train.len());
+    let read = || sheet::read_train(train);
+    on_read(fits, read, work, answer, |work, answer| {
+        merge_read(train, work, answer, parked)
+    })
 }

@@ -1,20 +1,22 @@
 -- `merge`: the call on a train.
+use mathlib.Core.Path.{◌≡◌, refl}
+use Rattle.std.specs.Prelude.{Ok, Err}
+use Rattle.std.proofs.Common.{rules}
+use Rattle.model.specs.Read.{read_train}
 use Rattle.model.specs.Call.{merge_answer}
-use Rattle.buffer.proofs.Ends.{handed_up, settled_as, call_short, call_refused, call_settled}
-use Rattle.buffer.proofs.Room.{room_enough}
+use Rattle.buffer.specs.Refusals.{numbered}
+use Rattle.buffer.proofs.Ends.{settled_as}
+use Rattle.sheet.specs.Answers.{step_of}
 use Rattle.sheet.proofs.Reading.{train_refused, train_whole}
 use Rattle.try_merge.proofs.merge.Goals as goal
 
-pub returns-in_err-work_fits : goal.returns-in_err-work_fits
-returns-in_err-work_fits c = call_short _ _ _ _ c.work_fits.ensures c.in_err-work_fits.was (handed_up _ c.from_residual.ensures.1)
-
-pub returns-in-Err : goal.returns-in-Err
+pub returns : goal.returns
 unfolding merge_answer
-returns-in-Err c = call_refused _ _ _ _ c.work_fits.ensures c.in_ok-work_fits.was (train_refused _ _ c.read_train.ensures c.in-Err.is) c.refuse.ensures.0 c.refuse.ensures.1
-
-pub returns-in-Ok : goal.returns-in-Ok
-unfolding merge_answer
-returns-in-Ok c =
-    let whole = train_whole _ _ c.read_train.ensures (λ k. (c.type_inv.train k).fits) c.in-Ok.is in
-    call_settled _ _ _ _ c.work_fits.ensures c.in_ok-work_fits.was
-    (settled_as _ _ whole.outcome (c.merge_read.ensures whole.schemas whole.bytes whole.fits whole.count (room_enough _ _ c.work_fits.ensures c.in_ok-work_fits.was)))
+returns c =
+    let train = c.args.train.now in
+    c.on_read.ensures _ _ c.work_fits-fits.ensures
+    (λ x p. let read : numbered (Err x) ≡ step_of (read_train train) = search rules in train_refused _ _ read refl)
+    λ n p w a w' a' r room q.
+    let read : numbered (Ok n) ≡ step_of (read_train train) = search rules in
+    let v = train_whole _ _ read (λ k. (c.type_inv.train k).fits) refl in
+    settled_as _ _ v.outcome (search (rules, v))
