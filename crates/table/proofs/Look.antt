@@ -10,12 +10,12 @@ use Rattle.model.specs.Tree.{Head, Field}
 use Rattle.model.specs.Sheet.{part, text_bytes, head_bytes}
 use Rattle.model.proofs.Lists.{every_append}
 use Rattle.walk.specs.Stands.{Stands, Skips}
-use Rattle.walk.proofs.Standing.{first_stands, second_stands, byte_stands, stands_behind, skip_ahead}
+use Rattle.walk.proofs.Standing.{first_stands, second_stands, byte_stands}
 use Rattle.walk.proofs.Descents.{head_stands}
-use Rattle.table.specs.Table.{three, no_entry, Rows, none, more, SpellField, SpellRow}
+use Rattle.table.specs.Table.{no_entry, Rows, none, more, SpellField, SpellRow}
 use Rattle.table.specs.Entries.{SkipsEntries, NoEntry, StepsOver, GivesEntry}
 use Rattle.table.specs.declared.EntryRow.{EntryRow}
-use Rattle.table.specs.Look.{NamesEntry, Cut, FoundAt, Finds}
+use Rattle.table.specs.Look.{NamesPlace, NamesEntry, Cut, FoundAt, Finds}
 use denote.Ref.{Bor}
 use denote.Param.Members.{Mut}
 use Rattle.std.proofs.Common.{Option, Some, None, Result, Ok, Err}
@@ -23,7 +23,6 @@ use Rattle.std.specs.Fn.{Called, CalledAt}
 use Rattle.std.specs.Option.{IfSome, ok_or}
 use Rattle.std.specs.List.{FoldsTo}
 use Rattle.std.specs.Iterator.{Yields, FindsItem}
-use Rattle.table.proofs.Numbers.{three_stands}
 use Rattle.table.proofs.Entries.{SkipsRows, steps_over}
 
 -- what `has_name` of a field of the train ensures
@@ -35,9 +34,9 @@ module _ {s w : Bytes} {place : ℕ} where
   flags_stand : (l : ℕ) {k : ℕ} {y : Bytes} {f : Field l} (e : SpellField l s k y f) → Stands w place y → get_or w place 0 ≡ e.flags
   flags_stand l e st = byte_stands (subst (Stands w place) e.bytes st)
 
-  pub named_entry : {name : Bytes} {t : ℕ} {r : Bool} → t ≡ three w (place + 1) → HasName s t name r → NamesEntry s w place name r
+  pub named_entry : {name : Bytes} {t : ℕ} {r : Bool} → NamesPlace w place t → HasName s t name r → NamesEntry s w place name r
   named_entry {t = t} i h l k y f n e st u =
-      let first : t ≡ e.first = i ∙ three_stands e.first _ (omega (arith, e.small)) (stands_behind (skip_ahead (e.flags ∷ []) refl λ z. refl) (subst (Stands w place) e.bytes st)) in
+      let first : t ≡ e.first = i e.flags e.first _ e.small (subst (Stands w place) e.bytes st) in
       h e.own.head n (subst (λ p. Stands s p (head_bytes e.own.head)) (sym first) (head_stands l e.own e.stands)) u ∙ ap (λ z. same_bytes z n) e.name
 
 -- Rows

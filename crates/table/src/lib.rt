@@ -223,13 +223,13 @@ impl Iterator for EntryRow<'_> {
     }
 }
 
-// The place of the train that stands behind one byte: that of an entry's first occurrence behind its flags, and a type's behind its kind.
-#[tactic(auto, unfolding(crate::specs::Table::three))]
+// The place of the train that stands behind one byte: that of an entry's first occurrence behind its flags, and a type's behind its kind. By
+// one test of the room: a row may have thousands of entries, and the look-up of a name reads the place of each.
 pub fn place_at(w: &[u8], at: usize) -> usize
-    ensures { (result ≡ three w.now (at + 1)) × (result < 16777216) }
+    ensures { NamesPlace w.now at result × (result < 16777216) }
 {
     match w.get(at..) {
-        Some([_, behind @ ..]) => three(behind, 0),
+        Some([_, a, b, c, ..]) => u32::from_le_bytes([*a, *b, *c, 0]) as usize,
         _ => 0,
     }
 }
