@@ -100,11 +100,3 @@ module _ (given : ℕ) (outcome : Answer) (work answer : Bytes) {room : Result U
       → x ≡ call given outcome work answer
   unfolding settled
   call_answered h o e = call_settled h (rw o e)
-
-  -- the same where the work buffer was cleared before, and the answer is written whatever the work buffer has
-  pub call_written : (r : Result ℕ Refusal) (after cleared : Bytes) {b : Bytes} → room ≡ Ok tt → outcome ≡ bytes b
-      → ((w : Bytes) → leaves r after w ≡ acceptance b w answer) → cleared ≡ zeros (length work) → leaves r after cleared ≡ call given outcome work answer
-  call_written r after cleared {b} h o e z = call_answered h o (e cleared ∙ ap (λ w. acceptance b w answer) z)
-
--- what `search` ends a call with: `search (ends, ..)`, the rest being the caller's laws that its steps answer the definition's outcome
-pub ruleset ends = (call_short, call_refused, call_answered)

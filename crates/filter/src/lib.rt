@@ -14,8 +14,8 @@ ghost use Rattle.filter.specs.Filters.{CopiesTo, FiltersLeaf, FiltersType, Filte
 
 use buffer::{Number, Output, Refusal};
 use layout::{DICTIONARY, RUN_END_ENCODED, STRUCT, UNION};
-use sheet::call::on_sheet;
 use sheet::Cursor;
+use sheet::call::on_sheet;
 use walk::Elements;
 
 // What stands before a part was put from `put` to `front`. Where nothing was put behind it, it is taken back: "A nested type with no leaf

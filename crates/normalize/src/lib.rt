@@ -17,8 +17,8 @@ ghost use Rattle.normalize.specs.Expands.{Above, prefix, Measures, ExpandsColumn
 
 use buffer::{Number, Output, Refusal};
 use layout::STRUCT;
-use sheet::call::on_sheet;
 use sheet::Cursor;
+use sheet::call::on_sheet;
 use std::marker::Model;
 use walk::Elements;
 

@@ -21,8 +21,8 @@ ghost use Rattle.project.specs.Seen.{index_fits_by, marked};
 ghost use Rattle.project.specs.Table.{Table};
 
 use buffer::{Number, Output, Refusal};
-use sheet::call::on_sheet;
 use sheet::Cursor;
+use sheet::call::on_sheet;
 use walk::Elements;
 
 // Writes a place as entry i of a table: its two lower bytes.

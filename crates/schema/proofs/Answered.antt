@@ -4,33 +4,23 @@ use native.Mathlib.Omega.{arith}
 use mathlib.Core.Path.{◌≡◌, refl, sym, ap, subst, ◌∙◌}
 use mathlib.Core.List.{List, [], ◌∷◌, ◌++◌}
 use lib.ListN.{length, take, drop, length-append}
-use lib.Dec.{ltb}
 use Rattle.model.specs.Numbers.{max_levels, max_sheet_bytes, work_bytes_per_sheet_byte}
 use Rattle.model.specs.Bytes.{Bytes, Metadata, u16}
 use Rattle.model.specs.Tree.{Field, Schema}
 use Rattle.model.specs.Sheet.{each, part, with_count, pair_bytes, column_bytes, sheet_bytes}
-use Rattle.model.specs.Read.{read_sheet}
 use Rattle.model.specs.Schema.{each_at, flattened_fields}
 use Rattle.model.specs.Call.{Exit, bytes, settled, zeros, acceptance}
 use Rattle.model.specs.WellFormed.{Fits}
 use Rattle.model.proofs.WellFormed.{columns_laid_out}
 use Rattle.model.proofs.Flattened.{length_numbers, flattened_no_longer, flattened_half}
-use Rattle.sheet.specs.Answers.{step_of}
 use Rattle.walk.specs.Stands.{Stands, ColumnsAt}
 use Rattle.walk.proofs.Standing.{whole_stands}
-use Rattle.std.specs.Prelude.{Result, Ok, Err}
-use Rattle.buffer.specs.declared.refusal.Refusal.{Refusal}
-use Rattle.buffer.specs.Refusals.{number_of, numbered}
 use Rattle.buffer.specs.declared.Output.{Output}
-use Rattle.buffer.specs.Puts.{Puts, Fills, unless_short}
+use Rattle.buffer.specs.Puts.{Puts, Fills}
 use Rattle.buffer.specs.Buffer.{pasted}
-use Rattle.buffer.specs.Leaves.{leaves}
 use Rattle.buffer.proofs.Pasted.{length_pasted, pasted_zero, take_pasted}
 use Rattle.buffer.proofs.Puts.{puts_join, two_bytes_lem}
-use Rattle.buffer.proofs.Room.{room_enough}
-use Rattle.buffer.proofs.Ends.{call_answered}
 use Rattle.schema.specs.Flattens.{Flattens, own, FlattensRow, Listed}
-use Rattle.sheet.proofs.Reading.{Whole, sheet_refused}
 use Rattle.std.proofs.Common.{add-zero}
 
 -- the columns stand where `flattened_fields` counts from

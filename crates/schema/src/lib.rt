@@ -16,8 +16,8 @@ ghost use Rattle.schema.specs.Flattens.{FlattensType, FlattensField, FlattensRow
 
 use buffer::{Number, Output, Refusal};
 use layout::{ChildrenKind, RUN_END_ENCODED};
-use sheet::call::on_sheet;
 use sheet::Cursor;
+use sheet::call::on_sheet;
 use walk::Elements;
 
 // Whether the text that stands at a place is this one.

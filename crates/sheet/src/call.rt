@@ -43,5 +43,6 @@ pub fn on_sheet<F: FnOnce(&mut [u8], &mut [u8]) -> Result<usize, Refusal>>(
     ensures { (f : Schema → Answer) → AnswersSheet (F.post answered) f sheet.now → leaves result answer.new work.new ≡ call (length sheet.now) (and_then (read_sheet sheet.now) f) work.old answer.old }
 {
     let fits = buffer::work_fits(work.len(), sheet.len());
-    on_read(fits, || crate::read_sheet(sheet), work, answer, answered)
+    let read = || crate::read_sheet(sheet);
+    on_read(fits, read, work, answer, answered)
 }

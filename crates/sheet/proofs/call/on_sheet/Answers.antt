@@ -1,5 +1,5 @@
 -- `on_sheet`: what is read is a sheet.
-use mathlib.Core.Path.{◌≡◌, refl, ◌∙◌}
+use mathlib.Core.Path.{◌≡◌, refl}
 use mathlib.Core.List.{[]}
 use lib.ListN.{length}
 use Prim.Native.Nat.{◌*◌, ◌≤◌}
