@@ -15,8 +15,8 @@ ghost use Rattle.try_merge.specs.Claims.{BeginsTable, MergesSheet, MergesSheets}
 
 use buffer::{Number, Refusal};
 use datatype::metadata::of_sheet;
-use sheet::call::on_read;
 use sheet::Cursor;
+use sheet::call::on_read;
 
 // The table of `Schema::empty`: the end of a row of places, and the end of a row of entries.
 const EMPTY: [u8; 4] = [255; 4];
