@@ -17,11 +17,8 @@ ghost use Rattle.try_merge.specs.Claims.{BeginsTable, MergesSheet, MergesSheets}
 use buffer::{Number, Refusal};
 use datatype::metadata::of_sheet;
 use sheet::Cursor;
-<<<<<<< HEAD
-use table::Table;
-=======
 use sheet::call::on_read;
->>>>>>> 3b4018b4fdb544f2526d213d5782cd351d715b34
+use table::Table;
 
 // The table of `Schema::empty`: the end of a row of places, and the end of a row of entries.
 const EMPTY: [u8; 4] = [255; 4];
