@@ -60,7 +60,9 @@ fn next_piece(input: &mut impl Read, dst: &mut [u8], at: usize) -> io::Result<us
 }
 
 // The list's next bytes, in a buffer that has room for them.
-pub fn next_bytes<'a>(input: &mut impl Read, space: &'a mut [u8]) -> io::Result<&'a [u8]> {
+pub fn next_bytes<'a>(input: &mut impl Read, space: &'a mut [u8]) -> io::Result<&'a [u8]>
+    ensures { IfOk result (λ bytes. length bytes.now ≤ length space.old) }
+{
     let mut filled = 0;
     for _ in 0..next_u16(input)? {
         filled = next_piece(input, space, filled)?;
