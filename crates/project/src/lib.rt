@@ -65,47 +65,6 @@ fn check_entry(seen: &mut [u8], i: usize, strict: bool, at: usize) -> Result<(),
     Ok(())
 }
 
-// The list against as many columns as there are flags: 17, then the entries in order.
-fn check_list(list: &[u8], strict: bool, seen: &mut [u8]) -> Result<(), Refusal>
-    ensures { (x : Schema) → length x.columns ≡ length seen.old → numbered result ≡ checked_of (project strict x list.now) }
-{
-    if list.len() % 2 == 1 {
-        return Err(Refusal::from(Number::OddList));
-    }
-    buffer::clear(seen);
-    for (e, entry) in list.chunks_exact(2).enumerate() {
-        let checked = check_entry(seen, walk::two(entry, 0), strict, e);
-        let Ok(()) = checked else {
-            return checked;
-        };
-    }
-    Ok(())
-}
-
-// The same with the flags behind a table of so many columns, which stays as it is.
-fn check_behind(list: &[u8], strict: bool, count: usize, work: &mut [u8]) -> Result<(), Refusal>
-    requires { 3 * count + 2 ≤ length work.old }
-    ensures { (take (2 * count + 2) work.new ≡ take (2 * count + 2) work.old) × ((x : Schema) → length x.columns ≡ count → numbered result ≡ checked_of (project strict x list.now)) }
-{
-    let from = 2 * count + 2;
-    let end = from + count;
-    check_list(list, strict, &mut work[from..end])
-}
-
-// The table of a sheet that was read, and the verdict on the list. The work buffer has room, since a sheet has more bytes than columns:
-// the test is for any other bytes.
-fn check_columns(s: &[u8], list: &[u8], strict: bool, work: &mut [u8]) -> Result<(), Refusal>
-    ensures { (x : Schema) → Fits x → s.now ≡ sheet_bytes x → 4 * length s.now ≤ length work.old → (numbered result ≡ checked_of (project strict x list.now)) × Table s.now work.new x.columns }
-{
-    let columns = walk::find_columns(s, 0);
-    let count = columns.count;
-    if work.len() / 4 <= count {
-        return Ok(());
-    }
-    write_places(s, columns, work);
-    check_behind(list, strict, count, work)
-}
-
 // The map, of which the bit for the metadata is as it was and that for the columns is given, and the metadata as it stands in the sheet.
 fn put_front(s: &[u8], columns: bool, out: &mut Output<'_>)
     ensures { (x : Schema) → s.now ≡ sheet_bytes x → Puts ((flag 1 (stands x.metadata) + flag 2 columns) ∷ part (with_count pair_bytes) x.metadata) out.old out.new }
@@ -115,69 +74,109 @@ fn put_front(s: &[u8], columns: bool, out: &mut Output<'_>)
     walk::put_part(out, s, 1, walk::skip_sheet_head(s, 0));
 }
 
-// The column of each entry of a list that was accepted. Beyond the longest answer no more is looked at.
-fn put_columns(s: &[u8], table: &[u8], list: &[u8], out: &mut Output<'_>)
-    ensures { (x y : Schema) (strict : Bool) (n : ℕ) → Table s.now table.now x.columns → project strict x list.now ≡ got y n → Puts (each column_bytes y.columns) out.old out.new }
-{
-    for entry in list.chunks_exact(2) {
-        if buffer::MAX_ANSWER_BYTES < out.written {
-            return;
-        }
-        let i = walk::two(entry, 0);
-        let from = walk::two(table, 2 * i);
-        let to = walk::two(table, 2 * (i + 1));
-        walk::put_part(out, s, from, to);
-    }
-}
-
-// The sheet of the projection by a list that was accepted, from the buffer's start on, and its length.
-fn put_projected(s: &[u8], table: &[u8], list: &[u8], dst: &mut [u8]) -> usize
-    ensures { (x y : Schema) (strict : Bool) (n : ℕ) → s.now ≡ sheet_bytes x → Table s.now table.now x.columns → project strict x list.now ≡ got y n → Fills (sheet_bytes y) dst.old dst.new result }
-{
-    let mut out = Output::new(dst);
-    let none = list.is_empty();
-    put_front(s, !none, &mut out);
-    if none {
-        return out.written;
-    }
-    out.put_two(list.len() / 2);
-    put_columns(s, table, list, &mut out);
-    out.written
-}
-
-// The end of a call whose list was accepted: the answer's length first, then 30, 31, or the answer.
-fn answer_projected(
-    s: &[u8],
-    list: &[u8],
-    work: &mut [u8],
-    answer: &mut [u8],
-) -> Result<usize, Refusal>
-    ensures { (x y : Schema) (strict : Bool) (n : ℕ) → s.now ≡ sheet_bytes x → Table s.now work.old x.columns → project strict x list.now ≡ got y n → leaves result answer.new work.new ≡ acceptance (sheet_bytes y) (zeros (length work.old)) answer.old }
-{
-    let written = put_projected(s, work, list, &mut []);
-    match buffer::length_fits(written, answer.len()) {
-        Err(refusal) => buffer::refuse(work, refusal),
-        Ok(()) => {
-            put_projected(s, work, list, answer);
-            buffer::clear(work);
-            Ok(written)
-        }
-    }
-}
-
-// What a call ends with whose sheet was read: the refusal of the list, or the projection.
-fn project_read(
-    s: &[u8],
-    list: &[u8],
+// A projection: of which sheet, by which list, and whether an index may stand in the list once only.
+#[derive(Clone, Copy)]
+struct Projection<'a> {
+    sheet: &'a [u8],
+    list: &'a [u8],
     strict: bool,
-    work: &mut [u8],
-    answer: &mut [u8],
-) -> Result<usize, Refusal>
-    ensures { (x : Schema) → Fits x → s.now ≡ sheet_bytes x → 4 * length s.now ≤ length work.old → leaves result answer.new work.new ≡ settled (sheet_answer (project strict x list.now)) (zeros (length work.old)) answer.old }
-{
-    match check_columns(s, list, strict, work) {
-        Err(entry) => buffer::refuse(work, entry),
-        Ok(()) => answer_projected(s, list, work, answer),
+}
+
+impl Projection<'_> {
+    // The list against as many columns as there are flags: 17, then the entries in order.
+    fn check_list(&self, seen: &mut [u8]) -> Result<(), Refusal>
+        ensures { (x : Schema) → length x.columns ≡ length seen.old → numbered result ≡ checked_of (project self.now.strict x self.now.list.now) }
+    {
+        if self.list.len() % 2 == 1 {
+            return Err(Refusal::from(Number::OddList));
+        }
+        buffer::clear(seen);
+        for (e, entry) in self.list.chunks_exact(2).enumerate() {
+            let checked = check_entry(seen, walk::two(entry, 0), self.strict, e);
+            let Ok(()) = checked else {
+                return checked;
+            };
+        }
+        Ok(())
+    }
+
+    // The same with the flags behind a table of so many columns, which stays as it is.
+    fn check_behind(&self, count: usize, work: &mut [u8]) -> Result<(), Refusal>
+        requires { 3 * count + 2 ≤ length work.old }
+        ensures { (take (2 * count + 2) work.new ≡ take (2 * count + 2) work.old) × ((x : Schema) → length x.columns ≡ count → numbered result ≡ checked_of (project self.now.strict x self.now.list.now)) }
+    {
+        let from = 2 * count + 2;
+        let end = from + count;
+        self.check_list(&mut work[from..end])
+    }
+
+    // The table of a sheet that was read, and the verdict on the list. The work buffer has room, since a sheet has more bytes than columns:
+    // the test is for any other bytes.
+    fn check_columns(&self, work: &mut [u8]) -> Result<(), Refusal>
+        ensures { (x : Schema) → Fits x → self.now.sheet.now ≡ sheet_bytes x → 4 * length self.now.sheet.now ≤ length work.old → (numbered result ≡ checked_of (project self.now.strict x self.now.list.now)) × Table self.now.sheet.now work.new x.columns }
+    {
+        let columns = walk::find_columns(self.sheet, 0);
+        let count = columns.count;
+        if work.len() / 4 <= count {
+            return Ok(());
+        }
+        write_places(self.sheet, columns, work);
+        self.check_behind(count, work)
+    }
+
+    // The column of each entry of a list that was accepted. Beyond the longest answer no more is looked at.
+    fn put_columns(&self, table: &[u8], out: &mut Output<'_>)
+        ensures { (x y : Schema) (strict : Bool) (n : ℕ) → Table self.now.sheet.now table.now x.columns → project strict x self.now.list.now ≡ got y n → Puts (each column_bytes y.columns) out.old out.new }
+    {
+        for entry in self.list.chunks_exact(2) {
+            if buffer::MAX_ANSWER_BYTES < out.written {
+                return;
+            }
+            let i = walk::two(entry, 0);
+            let from = walk::two(table, 2 * i);
+            let to = walk::two(table, 2 * (i + 1));
+            walk::put_part(out, self.sheet, from, to);
+        }
+    }
+
+    // The sheet of the projection by a list that was accepted, from the buffer's start on, and its length.
+    fn put_projected(&self, table: &[u8], dst: &mut [u8]) -> usize
+        ensures { (x y : Schema) (strict : Bool) (n : ℕ) → self.now.sheet.now ≡ sheet_bytes x → Table self.now.sheet.now table.now x.columns → project strict x self.now.list.now ≡ got y n → Fills (sheet_bytes y) dst.old dst.new result }
+    {
+        let mut out = Output::new(dst);
+        let none = self.list.is_empty();
+        put_front(self.sheet, !none, &mut out);
+        if none {
+            return out.written;
+        }
+        out.put_two(self.list.len() / 2);
+        self.put_columns(table, &mut out);
+        out.written
+    }
+
+    // The end of a call whose list was accepted: the answer's length first, then 30, 31, or the answer.
+    fn answer_projected(&self, work: &mut [u8], answer: &mut [u8]) -> Result<usize, Refusal>
+        ensures { (x y : Schema) (strict : Bool) (n : ℕ) → self.now.sheet.now ≡ sheet_bytes x → Table self.now.sheet.now work.old x.columns → project strict x self.now.list.now ≡ got y n → leaves result answer.new work.new ≡ acceptance (sheet_bytes y) (zeros (length work.old)) answer.old }
+    {
+        let written = self.put_projected(work, &mut []);
+        match buffer::length_fits(written, answer.len()) {
+            Err(refusal) => buffer::refuse(work, refusal),
+            Ok(()) => {
+                self.put_projected(work, answer);
+                buffer::clear(work);
+                Ok(written)
+            }
+        }
+    }
+
+    // What a call ends with whose sheet was read: the refusal of the list, or the projection.
+    fn project_read(&self, work: &mut [u8], answer: &mut [u8]) -> Result<usize, Refusal>
+        ensures { (x : Schema) → Fits x → self.now.sheet.now ≡ sheet_bytes x → 4 * length self.now.sheet.now ≤ length work.old → leaves result answer.new work.new ≡ settled (sheet_answer (project self.now.strict x self.now.list.now)) (zeros (length work.old)) answer.old }
+    {
+        match self.check_columns(work) {
+            Err(entry) => buffer::refuse(work, entry),
+            Ok(()) => self.answer_projected(work, answer),
+        }
     }
 }
 
@@ -192,7 +191,12 @@ fn project_by(
     ensures { leaves result answer.new work.new ≡ project_call strict sheet.now list.now work.old answer.old }
 {
     on_sheet(sheet, work, answer, |work, answer| {
-        project_read(sheet, list, strict, work, answer)
+        let projection = Projection {
+            sheet,
+            list,
+            strict,
+        };
+        projection.project_read(work, answer)
     })
 }
 

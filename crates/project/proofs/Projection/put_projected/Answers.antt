@@ -2,7 +2,7 @@
 use Rattle.std.proofs.Common.{rules}
 use Rattle.buffer.proofs.Puts.{filled}
 use Rattle.project.proofs.Putting.{sheet_none, sheet_some}
-use Rattle.project.proofs.put_projected.Goals as goal
+use Rattle.project.proofs.Projection.put_projected.Goals as goal
 
 pub returns-then-none : goal.returns-then-none
 returns-then-none c = λ x y strict n e t p.

@@ -1,7 +1,7 @@
 -- `answer_projected`: 30 or 31 by the answer's length, or the answer.
 use mathlib.Core.Path.{refl}
 use Rattle.project.proofs.Ends.{end_refused, end_accepted}
-use Rattle.project.proofs.answer_projected.Goals as goal
+use Rattle.project.proofs.Projection.answer_projected.Goals as goal
 
 pub returns-in-Err : goal.returns-in-Err
 returns-in-Err c = end_refused _ c.put_projected-written.ensures _ c.length_fits.ensures c.in-Err.is c.refuse.ensures.0 c.refuse.ensures.1

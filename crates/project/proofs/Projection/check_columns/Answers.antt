@@ -1,6 +1,6 @@
 -- `check_columns`: the table, then the verdict.
 use Rattle.project.proofs.Ends.{table_fits, table_checked}
-use Rattle.project.proofs.check_columns.Goals as goal
+use Rattle.project.proofs.Projection.check_columns.Goals as goal
 
 pub returns : goal.returns
 returns c =

@@ -2,7 +2,7 @@
 use Rattle.std.proofs.Common.{ap, ◌∙◌, arith}
 use Rattle.std.specs.Slice.Iter.{chunks_exact_size, chunks_exact_rest}
 use Rattle.project.proofs.Putting.{putting_begin, putting_again, putting_beyond, putting_done}
-use Rattle.project.proofs.put_columns.Goals as goal
+use Rattle.project.proofs.Projection.put_columns.Goals as goal
 
 pub loop-entry-preserved : goal.loop-entry-preserved
 loop-entry-preserved c =

@@ -1,7 +1,7 @@
 -- `project_read`: the refusal of the list, or the projection.
 use Rattle.project.proofs.Ends.{list_refused, list_accepted}
 use borrow.Author.Rules.{rules}
-use Rattle.project.proofs.project_read.Goals as goal
+use Rattle.project.proofs.Projection.project_read.Goals as goal
 
 pub returns-in-Err : goal.returns-in-Err
 returns-in-Err c =

@@ -6,10 +6,10 @@ use Rattle.std.specs.Slice.Iter.{chunks_exact_size, chunks_exact_rest}
 use Rattle.buffer.specs.declared.refusal.Refusal.{Refusal}
 use Rattle.buffer.specs.Refusals.{numbered}
 use Rattle.project.proofs.Walk.{project_odd, cleared, walk_begin, walk_stop, walk_next, walk_end}
-use Rattle.project.proofs.check_list.Goals as goal
+use Rattle.project.proofs.Projection.check_list.Goals as goal
 
-pub returns-then-list-eq1 : goal.returns-then-list-eq1
-returns-then-list-eq1 c = λ x n. ap (λ (r : Refusal). numbered {A = Unit} (Err r)) c.from.ensures ∙ project_odd _ _ _ c.if-list-eq1.true
+pub returns-then-self-eq1 : goal.returns-then-self-eq1
+returns-then-self-eq1 c = λ x n. ap (λ (r : Refusal). numbered {A = Unit} (Err r)) c.from.ensures ∙ project_odd _ _ _ c.if-self-eq1.true
 
 pub loop-e-init : goal.loop-e-init
 loop-e-init c =
@@ -17,7 +17,7 @@ loop-e-init c =
     let items = c.enumerate-e-items.ensures in
     let source = ap enumerate_source e ∙ items.source in (
       ap chunks_exact_size source ∙ c.chunks_exact.ensures.size,
-      walk_begin _ _ _ c.if-list-eq1.false (ap chunks_exact_rest source ∙ c.chunks_exact.ensures.rest) (ap enumerate_count e ∙ items.count) c.clear.ensures,
+      walk_begin _ _ _ c.if-self-eq1.false (ap chunks_exact_rest source ∙ c.chunks_exact.ensures.rest) (ap enumerate_count e ∙ items.count) c.clear.ensures,
     )
 
 pub loop-e-preserved : goal.loop-e-preserved
