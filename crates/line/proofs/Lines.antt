@@ -3,11 +3,10 @@ use Prim.Native.Nat.{ℕ, ◌+◌, ◌/◌, ◌%◌, ◌^◌, ◌<◌}
 use native.Mathlib.Omega.{arith}
 use mathlib.Core.Path.{◌≡◌, refl, sym, ap, ◌∙◌}
 use mathlib.Core.List.{[], ◌∷◌, ◌++◌}
-use mathlib.Core.Bool.{false}
 use lib.Dec.{eqb, eqb→eq}
 use lib.ListN.{length, take, get_or}
 use Rattle.std.proofs.lemmas.List.{take_more}
-use borrow.Author.Tests.{lt-ltb, le-ltb}
+use borrow.Author.Tests.{lt-ltb, le-ltb, eq-eqb, ne_eqb}
 use Rattle.std.specs.Fmt.{decimal as text}
 use Rattle.std.proofs.lemmas.Fmt.{decimal_from_appends, length-decimal-le}
 use Rattle.hex.specs.Hex.{lower_digits, encode_with, encode_lower}
@@ -17,15 +16,11 @@ use Rattle.model.specs.Sheet.{each}
 use Rattle.model.specs.Program.{space, minus, line_feed, decimal_of, decimal, hex_digit, hex_byte, hex_or_minus, line_of}
 use Rattle.model.proofs.Lists.{each_append}
 use Rattle.model.proofs.Computed.{at_below}
-use Rattle.std.specs.Prelude.{Result, Ok, Err}
 use Rattle.buffer.specs.declared.Outcome.{Outcome}
 use Rattle.buffer.specs.declared.Output.{Output}
-use Rattle.buffer.specs.declared.refusal.Number.{Number}
-use Rattle.buffer.specs.declared.refusal.Refusal.{Refusal}
-use Rattle.buffer.specs.Refusals.{number_of}
 use Rattle.buffer.specs.Puts.{Puts}
-use Rattle.buffer.specs.Leaves.{leaves, outcome_of}
 use Rattle.buffer.proofs.Puts.{puts_same, puts_join}
+use Rattle.line.specs.Exits.{exit_of}
 
 -- Digits: the library's are those of the definitions
 
@@ -55,33 +50,29 @@ hex_again s i digits byte h f written g =
 
 -- The answer, of a call that left this answer buffer
 
-not_accepted : (n : Number) → eqb (number_of n) accepted ≡ false
-not_accepted n = grind arith
+module _ (o : Outcome) (answer work : Bytes) {p q : Output} where
+  pub answer_refused : (o.number ≡ accepted → ⊥) → Puts (minus ∷ []) p q → Puts (hex_or_minus (exit_of o answer work)) p q
+  unfolding hex_or_minus exit_of choose
+  answer_refused h f = rw (ne_eqb o.number accepted h) f
 
-module _ {r : Result ℕ Refusal} (answer work : Bytes) {o o' : Output} where
-  pub answer_refused : {x : Refusal} → r ≡ Err x → Puts (minus ∷ []) o o' → Puts (hex_or_minus (leaves r answer work)) o o'
-  unfolding hex_or_minus leaves choose
-  answer_refused {x} e f = rw (e, not_accepted x.0) f
-
-  pub answer_part : {n : ℕ} → r ≡ Ok n → Puts (each hex_byte (take n answer)) o o' → Puts (hex_or_minus (leaves r answer work)) o o'
-  unfolding hex_or_minus leaves choose
-  answer_part e f = rw e f
+  pub answer_part : o.number ≡ accepted → Puts (each hex_byte (take o.length answer)) p q → Puts (hex_or_minus (exit_of o answer work)) p q
+  unfolding hex_or_minus exit_of choose
+  answer_part h f = rw (eq-eqb o.number accepted h) f
 
 -- The line
 
-pub line_put : (r : Result ℕ Refusal) (o : Outcome) (answer work : Bytes) {o₀ o₁ o₂ o₃ o₄ o₅ o₆ : Output} → o ≡ outcome_of r
+pub line_put : (o : Outcome) (answer work : Bytes) {o₀ o₁ o₂ o₃ o₄ o₅ o₆ : Output}
     → Puts (decimal o.number) o₀ o₁ → Puts (space ∷ []) o₁ o₂
     → Puts (decimal o.place) o₂ o₃ → Puts (space ∷ []) o₃ o₄
-    → Puts (hex_or_minus (leaves r answer work)) o₄ o₅ → Puts (line_feed ∷ []) o₅ o₆
-    → Puts (line_of (leaves r answer work)) o₀ o₆
-unfolding line_of leaves
-line_put r o answer work e f₁ f₂ f₃ f₄ f₅ f₆ =
-    let shown = hex_or_minus (leaves r answer work) in
+    → Puts (hex_or_minus (exit_of o answer work)) o₄ o₅ → Puts (line_feed ∷ []) o₅ o₆
+    → Puts (line_of (exit_of o answer work)) o₀ o₆
+unfolding line_of exit_of
+line_put o answer work f₁ f₂ f₃ f₄ f₅ f₆ =
+    let shown = hex_or_minus (exit_of o answer work) in
     let behind = shown ++ (line_feed ∷ []) in
     let second = decimal o.place ++ (space ∷ behind) in
-    puts_same (ap (λ (o : Outcome). decimal o.number ++ (space ∷ (decimal o.place ++ (space ∷ behind)))) e)
-    (puts_join (decimal o.number) (space ∷ second) f₁
+    puts_join (decimal o.number) (space ∷ second) f₁
     (puts_join (space ∷ []) second f₂
     (puts_join (decimal o.place) (space ∷ behind) f₃
     (puts_join (space ∷ []) behind f₄
-    (puts_join shown (line_feed ∷ []) f₅ f₆)))))
+    (puts_join shown (line_feed ∷ []) f₅ f₆))))

@@ -14,29 +14,32 @@ use Rattle.model.specs.Call.{Exit, zeros, merge_call}
 use Rattle.model.specs.Program.{line_of, program_line}
 use Rattle.model.proofs.Gives.{choose_true, choose_false}
 use Rattle.std.specs.Prelude.{Result, Err}
+use Rattle.buffer.specs.declared.Outcome.{Outcome}
 use Rattle.buffer.specs.declared.Output.{Output}
 use Rattle.buffer.specs.declared.refusal.Number.{Number}
 use Rattle.buffer.specs.declared.refusal.Refusal.{Refusal}
 use Rattle.buffer.specs.Refusals.{without_place}
 use Rattle.buffer.specs.Puts.{Puts, Fills}
-use Rattle.buffer.specs.Leaves.{leaves}
+use Rattle.buffer.specs.Leaves.{leaves, outcome_of}
 use Rattle.buffer.proofs.Ends.{leaves_refusal}
 use Rattle.buffer.proofs.Pasted.{pasted_zero}
 use Rattle.buffer.proofs.Puts.{puts_same}
+use Rattle.line.specs.Exits.{exit_of}
 use Rattle.line.specs.Prints.{max_line_bytes, Prints}
 use Rattle.line.proofs.Lengths.{program_line_length}
 
 module _ {o o' : Output} where
   -- the line for what a call left is that for the call
-  pub line_as : (r : Result ℕ Refusal) (answer work : Bytes) {x : Exit} → leaves r answer work ≡ x
-      → ((work : Bytes) → Puts (line_of (leaves r answer work)) o o') → Puts (line_of x) o o'
-  line_as r answer work e f = puts_same (ap line_of e) (f work)
+  pub line_as : (r : Result ℕ Refusal) (out : Outcome) (answer work : Bytes) {x : Exit} → leaves r answer work ≡ x → out ≡ outcome_of r
+      → ((work : Bytes) → Puts (line_of (exit_of out answer work)) o o') → Puts (line_of x) o o'
+  unfolding leaves exit_of
+  line_as r out answer work e t f = puts_same (ap (λ out. line_of (exit_of out answer work)) t ∙ ap line_of e) (f work)
 
-  pub too_long : (parked : Bool) (input : Bytes) (x : Refusal) → max_program_bytes < length input → x ≡ without_place Number.InputTooLong
-      → ((work : Bytes) → Puts (line_of (leaves (Err x) [] work)) o o') → Puts (program_line parked input) o o'
+  pub too_long : (parked : Bool) (input : Bytes) (x : Refusal) (out : Outcome) → max_program_bytes < length input → x ≡ without_place Number.InputTooLong → out ≡ outcome_of (Err x)
+      → ((work : Bytes) → Puts (line_of (exit_of out [] work)) o o') → Puts (program_line parked input) o o'
   unfolding program_line
-  too_long parked input x h e f =
-      puts_same (sym (choose_true _ _ _ (lt-ltb max_program_bytes (length input) h))) (line_as (Err x) [] [] (leaves_refusal _ [] [] (ap Err e)) f)
+  too_long parked input x out h e t f =
+      puts_same (sym (choose_true _ _ _ (lt-ltb max_program_bytes (length input) h))) (line_as (Err x) out [] [] (leaves_refusal _ [] [] (ap Err e)) t f)
 
   pub not_too_long : (parked : Bool) (input : Bytes) → length input ≤ max_program_bytes
       → Puts (line_of (merge_call parked input (zeros (work_bytes_per_sheet_byte * max_program_bytes)) (zeros max_sheet_bytes))) o o' → Puts (program_line parked input) o o'

@@ -10,7 +10,7 @@ ghost use Rattle.model.specs.Numbers.{max_program_bytes, max_sheet_bytes, work_b
 ghost use Rattle.model.specs.Call.{zeros, merge_call};
 ghost use Rattle.model.specs.Program.{decimal_of, decimal, hex_digit, hex_byte, hex_or_minus, line_of, program_line};
 ghost use Rattle.buffer.specs.Puts.{Puts};
-ghost use Rattle.buffer.specs.Leaves.{leaves};
+ghost use Rattle.line.specs.Exits.{exit_of};
 ghost use Rattle.line.specs.Prints.{Prints};
 
 use buffer::{Number, Outcome, Output, Refusal};
@@ -43,27 +43,28 @@ pub fn put_hex(out: &mut Output<'_>, bytes: &[u8])
     }
 }
 
-// "the answer in lower-case hex or `-`": of its buffer the answer is as many bytes as the call says; a refusal has none. Where the call says
-// more than the buffer has, all of it is taken. The call's work buffer has no part in it, so the promise holds for each.
-fn put_answer(out: &mut Output<'_>, answered: Result<usize, Refusal>, answer: &[u8])
-    ensures { (work : Bytes) → Puts (hex_or_minus (leaves answered answer.now work)) out.old out.new }
+// "the answer in lower-case hex or `-`": of its buffer the answer is as many bytes as the outcome says; a refusal has none. Where the
+// outcome says more than the buffer has, all of it is taken. The call's work buffer has no part in it, so the promise holds for each.
+fn put_answer(out: &mut Output<'_>, outcome: Outcome, answer: &[u8])
+    ensures { (work : Bytes) → Puts (hex_or_minus (exit_of outcome answer.now work)) out.old out.new }
 {
-    match answered {
-        Ok(length) => put_hex(out, &answer[..length.min(answer.len())]),
-        Err(_) => out.put_one(b'-'),
+    let refused = outcome.number != Outcome::ACCEPTED;
+    if refused {
+        return out.put_one(b'-');
     }
+    let length = outcome.length;
+    put_hex(out, &answer[..length.min(answer.len())]);
 }
 
-// The line for what a call answered, and what it left in its answer buffer.
-pub fn put_line(out: &mut Output<'_>, answered: Result<usize, Refusal>, answer: &[u8])
-    ensures { (work : Bytes) → Puts (line_of (leaves answered answer.now work)) out.old out.new }
+// The line for what a call gave, whatever its three numbers are, and what it left in its answer buffer.
+pub fn put_line(out: &mut Output<'_>, outcome: Outcome, answer: &[u8])
+    ensures { (work : Bytes) → Puts (line_of (exit_of outcome answer.now work)) out.old out.new }
 {
-    let outcome = Outcome::from(answered);
     put_decimal(out, usize::from(outcome.number));
     out.put_one(b' ');
     put_decimal(out, outcome.place);
     out.put_one(b' ');
-    put_answer(out, answered, answer);
+    put_answer(out, outcome, answer);
     out.put_one(b'\n');
 }
 
@@ -74,7 +75,7 @@ fn put_merged(out: &mut Output<'_>, train: &[u8], parked: bool)
     let mut work = [0u8; WORK_BYTES];
     let mut answer = [0u8; buffer::MAX_ANSWER_BYTES];
     let answered = try_merge::merge(train, &mut work, &mut answer, parked);
-    put_line(out, answered, &answer);
+    put_line(out, Outcome::from(answered), &answer);
 }
 
 // All that the program prints for what it has read: 35 for more than 16,000 bytes, whatever they are, or the merge of the train.
@@ -82,7 +83,8 @@ fn put_program_line(out: &mut Output<'_>, input: &[u8], parked: bool)
     ensures { Puts (program_line parked input.now) out.old out.new }
 {
     if MAX_PROGRAM_BYTES < input.len() {
-        return put_line(out, Err(Refusal::from(Number::InputTooLong)), &[]);
+        let answered = Err(Refusal::from(Number::InputTooLong));
+        return put_line(out, Outcome::from(answered), &[]);
     }
     put_merged(out, input, parked);
 }

@@ -4,7 +4,8 @@ use native.Mathlib.Omega.{arith}
 use mathlib.Core.Path.{◌≡◌, refl, sym, ap, ◌∙◌}
 use mathlib.Core.List.{List, [], ◌∷◌, ◌++◌}
 use mathlib.Core.Bool.{Bool, true, false, not, ◌||◌, false≢true}
-use lib.ListN.{length, get_or, set, length-set, length-replicate}
+use lib.ListN.{length, get_or, set, length-set, length-append, length-replicate, get_or-append}
+use lib.Seq.{drop_at}
 use lib.Dec.{eqb, ltb}
 use borrow.Author.Tests.{ltb-true, lt-ltb, le-ltb}
 use Rattle.model.specs.Numbers.{max_levels, index_out_of_bounds, index_repeated, odd_list}
@@ -13,7 +14,7 @@ use Rattle.model.specs.Tree.{Field, Schema}
 use Rattle.model.specs.Read.{Step, got, bad, next, judged, unless, ◌then◌}
 use Rattle.model.specs.Schema.{select, index_fits, selected, project}
 use Rattle.model.specs.Call.{zeros}
-use Rattle.model.proofs.Entries.{entries, indices_even, indices_odd, entries_end}
+use Rattle.model.proofs.Entries.{entries, indices_even, indices_odd, entries_next, entries_end}
 use Rattle.model.proofs.Flags.{Flags, flags_none, flags_more}
 use Rattle.project.specs.Answers.{checked_of, verdict_of}
 use Rattle.project.specs.Seen.{index_fits_by, marked}
@@ -121,13 +122,12 @@ module _ (strict : Bool) (x : Schema) (list : Bytes) where
   unfolding project next rest with_columns
   project_odd h = ap (λ r. checked_of (next r rest)) (sym (indices_odd list (length list / 2) (omega (arith, h))))
 
--- the first entry of those left, which the loop takes apart from them
+-- the first entry of those left, which the loop takes apart from them: entry 0 of what they are together
 pub entries_first : (entry behind : Bytes) → length entry ≡ 2 → {i : ℕ} → i ≡ get_or entry 0 0 + 256 * get_or entry 1 0 → entries (entry ++ behind) ≡ i ∷ entries behind
-unfolding entries
-entries_first [] behind h is = absurd (omega (arith, h))
-entries_first (a ∷ []) behind h is = absurd (omega (arith, h))
-entries_first (a ∷ b ∷ []) behind h is = ap (λ i. i ∷ entries behind) (sym is)
-entries_first (a ∷ b ∷ c ∷ cs) behind h is = absurd (omega (arith, h))
+entries_first entry behind h {i} is =
+    let low = get_or-append entry behind 0 0 (omega (arith, h)) in
+    let high = get_or-append entry behind 0 1 (omega (arith, h)) in
+    entries_next (entry ++ behind) 0 (omega (arith, length-append entry behind, h)) (rw (low, high) is) ∙ ap (λ b. i ∷ entries b) (drop_at entry behind 2 h)
 
 -- where e entries are passed: those left are answered as the whole
 pub record Walk (strict : Bool) (list left : Bytes) (count : ℕ) (seen : Bytes) (e : ℕ) : Type 0 where

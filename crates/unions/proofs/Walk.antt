@@ -3,15 +3,15 @@ use Prim.Native.Nat.{ℕ, zero, suc, ◌+◌, ◌-◌, ◌≤◌, ◌<◌}
 use native.Mathlib.Omega.{arith}
 use mathlib.Core.Path.{◌≡◌, refl, sym, ap, ◌∙◌}
 use mathlib.Core.List.{List, [], ◌∷◌}
-use mathlib.Core.Bool.{Bool, true, false, not, ◌||◌}
-use lib.ListN.{length, drop, get_or, set, replicate, length-set, length-replicate, get_or-replicate}
-use lib.Seq.{get_or-set_same, get_or-set_other}
+use mathlib.Core.Bool.{Bool, true, false, not}
+use lib.ListN.{length, drop, get_or, replicate, length-set, length-replicate}
 use lib.Dec.{eqb, leb}
-use borrow.Author.Tests.{eqb-true, eqb-false, leb-true, le-leb, lt-leb}
+use borrow.Author.Tests.{leb-true, le-leb, lt-leb}
 use Rattle.model.specs.Numbers.{max_type_id, more_fields_than_ids, more_ids_than_fields, id_too_large, id_repeated}
-use Rattle.model.specs.Bytes.{Bytes, among}
+use Rattle.model.specs.Bytes.{Bytes}
 use Rattle.model.specs.Read.{Step, got, bad, next, judged, unless, ◌then◌, id_fits}
 use Rattle.model.specs.Unions.{try_new}
+use Rattle.model.proofs.Flags.{Flags, flags_none, flags_more, fits_by_flags}
 use Rattle.model.proofs.Unions.{try_new_next, try_new_more_ids, try_new_more_fields, try_new_end}
 use Rattle.std.specs.Prelude.{Result, Ok, Err}
 use Rattle.buffer.specs.declared.refusal.Refusal.{Refusal}
@@ -25,7 +25,7 @@ Verdict = Result Unit (ℕ × ℕ)
 
 -- One id
 
-module _ (seen : List Bool) (i place : ℕ) where
+module _ (seen : List ℕ) (i place : ℕ) where
   abbrev answer : Verdict
   answer = checked_of (judged (id_fits_by seen i) place i (place + 1))
 
@@ -33,11 +33,11 @@ module _ (seen : List Bool) (i place : ℕ) where
   unfolding id_fits_by judged unless ◌then◌
   id_large h = rw (lt-leb i max_type_id h)
 
-  pub id_repeated_lem : i ≤ max_type_id → get_or seen i false ≡ true → Err (id_repeated, place) ≡ answer
+  pub id_repeated_lem : i ≤ max_type_id → eqb (get_or seen i 0) 1 ≡ true → Err (id_repeated, place) ≡ answer
   unfolding id_fits_by judged unless ◌then◌
   id_repeated_lem h k = rw (le-leb i max_type_id h, k)
 
-  pub id_new : i ≤ max_type_id → get_or seen i false ≡ false → Ok tt ≡ answer
+  pub id_new : i ≤ max_type_id → eqb (get_or seen i 0) 1 ≡ false → Ok tt ≡ answer
   unfolding id_fits_by judged unless ◌then◌
   id_new h k = rw (le-leb i max_type_id h, k)
 
@@ -46,36 +46,13 @@ module _ (seen : List Bool) (i place : ℕ) where
   unfolding id_fits_by judged unless ◌then◌
   id_small h = go (leb i max_type_id) refl h
     where
-      go : (t : Bool) → leb i max_type_id ≡ t → checked_of (judged (unless t id_too_large then unless (not (get_or seen i false)) id_repeated) place i (place + 1)) ≡ Ok tt → i ≤ max_type_id
+      go : (t : Bool) → leb i max_type_id ≡ t → checked_of (judged (unless t id_too_large then unless (not (eqb (get_or seen i 0) 1)) id_repeated) place i (place + 1)) ≡ Ok tt → i ≤ max_type_id
       go true e h = leb-true i max_type_id e
       go false e h = cc
 
--- The flags: that of an id stands where it is among the ids passed
-
-pub record Flags (seen : List Bool) (ids : List ℕ) : Type 0 where
-  pub stands : (i : ℕ) → i < length seen → get_or seen i false ≡ among i ids
-
-flags_none : (n : ℕ) → Flags (replicate n false) []
-unfolding among
-flags_none n = record { stands = λ i h. get_or-replicate n i false false (rw (length-replicate {A = Bool} n false) at h) }
-
-flags_more : {seen : List Bool} {ids : List ℕ} (i : ℕ) → Flags seen ids → i < length seen → Flags (set seen i true) (i ∷ ids)
-unfolding among
-flags_more {seen} {ids} i f h = record { stands = λ j k. go j (rw (length-set seen i true) at k) (eqb j i) refl }
-  where
-    go : (j : ℕ) → j < length seen → (t : Bool) → eqb j i ≡ t → get_or (set seen i true) j false ≡ (eqb j i || among j ids)
-    go j k true e = rw (e, eqb-true j i e, get_or-set_same seen i true false h)
-    go j k false e = rw (e, get_or-set_other seen i j true false (eqb-false j i e)) (f.stands j k)
-
--- they give the verdict on the next id
-fits_same : {seen : List Bool} {ids : List ℕ} → Flags seen ids → length seen ≡ suc max_type_id → (i : ℕ) → id_fits_by seen i ≡ id_fits ids i
-unfolding id_fits_by unless ◌then◌
-fits_same {seen} {ids} f l i = go (leb i max_type_id) refl
-  where
-    go : (t : Bool) → leb i max_type_id ≡ t
-        → (unless t id_too_large then unless (not (get_or seen i false)) id_repeated) ≡ (unless t id_too_large then unless (not (among i ids)) id_repeated)
-    go true e = ap (λ b. unless (not b) id_repeated) (f.stands i (omega (arith, l, leb-true i max_type_id e)))
-    go false e = refl
+fits_same : {seen ids : List ℕ} → Flags seen ids → length seen ≡ suc max_type_id → (i : ℕ) → id_fits_by seen i ≡ id_fits ids i
+unfolding id_fits_by
+fits_same = fits_by_flags
 
 -- what follows an id that is refused, or valid
 module _ {A B : Type 0} (place : ℕ) (a : A) (e : ℕ) (f : A → ℕ → Step B) where
@@ -96,7 +73,7 @@ made_checked f (got a e) = refl
 made_checked f (bad n p) = refl
 
 -- where i ids are passed: what is left is answered as the whole
-pub record Walk (ids : Bytes) (fields : ℕ) (seen : List Bool) (i : ℕ) : Type 0 where
+pub record Walk (ids : Bytes) (fields : ℕ) (seen : List ℕ) (i : ℕ) : Type 0 where
   pub passed : List ℕ
   pub flags : Flags seen passed
   pub size : length seen ≡ suc max_type_id
@@ -106,10 +83,10 @@ module _ (ids : Bytes) (fields : ℕ) where
   abbrev whole : Verdict
   whole = checked_of (try_new ids fields [] 0)
 
-  pub walk_begin : Walk ids fields (replicate (suc max_type_id) false) 0
-  walk_begin = record { passed = []; flags = flags_none (suc max_type_id); size = length-replicate {A = Bool} (suc max_type_id) false; same = let e : fields - 0 ≡ fields = omega arith in rw e }
+  pub walk_begin : Walk ids fields (replicate (suc max_type_id) 0) 0
+  walk_begin = record { passed = []; flags = flags_none (suc max_type_id); size = length-replicate {A = ℕ} (suc max_type_id) 0; same = let e : fields - 0 ≡ fields = omega arith in rw e }
 
-  module _ {seen : List Bool} {i : ℕ} (w : Walk ids fields seen i) where
+  module _ {seen : List ℕ} {i : ℕ} (w : Walk ids fields seen i) where
     pub walk_more_ids : i < length ids → fields ≤ i → Err (more_ids_than_fields, 0) ≡ whole
     walk_more_ids h k = ap checked_of (sym (try_new_more_ids ids fields w.passed i h k)) ∙ w.same
 
@@ -136,14 +113,14 @@ module _ (ids : Bytes) (fields : ℕ) where
             let n = ap numbered g in
             n ∙ sym (ap checked_of (try_new_next ids fields w.passed i h k) ∙ next_refused i id (i + 1) _ verdict (number_of x.0) x.1 (sym (by_list e) ∙ n)) ∙ w.same
 
-        pub walk_next : {after : List Bool} → r ≡ Ok tt → after ≡ marked r seen id → Walk ids fields after (i + 1)
+        pub walk_next : {after : List ℕ} → r ≡ Ok tt → after ≡ marked r seen id → Walk ids fields after (i + 1)
         walk_next g m =
             let s : id ≤ max_type_id = id_small seen id i (sym e ∙ ap numbered g) in
             let a = m ∙ ap (λ r. marked r seen id) g in
             record {
               passed = id ∷ w.passed;
               flags = rw a (flags_more id w.flags (omega (arith, w.size)));
-              size = rw a (length-set seen id true ∙ w.size);
+              size = rw a (length-set seen id 1 ∙ w.size);
               same =
                   sym
                   (ap checked_of (try_new_next ids fields w.passed i h k) ∙ next_valid i id (i + 1) _ verdict (sym (by_list e) ∙ ap numbered g)

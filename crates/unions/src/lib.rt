@@ -4,7 +4,7 @@
 // The look-up of an equal field compares fields: datatype has it.
 #![tactic(auto)]
 
-ghost use Rattle.std.specs.Prelude.{◌≡◌, [], suc, ◌+◌, ◌≤◌, eqb, get_or, set, true, false};
+ghost use Rattle.std.specs.Prelude.{◌≡◌, [], suc, ◌+◌, ◌≤◌, eqb, get_or, set};
 ghost use Rattle.model.specs.Numbers.{max_type_id};
 ghost use Rattle.model.specs.Bytes.{position};
 ghost use Rattle.model.specs.Read.{judged};
@@ -33,24 +33,24 @@ impl TypeId {
     pub const COUNT: usize = 128;
 
     // Whether the flag of this id is set.
-    pub fn is_seen(self, seen: &[bool; TypeId::COUNT]) -> bool
+    pub fn is_seen(self, seen: &[u8; TypeId::COUNT]) -> bool
         requires { self.0 ≤ max_type_id }
-        ensures { result ≡ get_or seen.now self.0 false }
+        ensures { result ≡ eqb (get_or seen.now self.0 0) 1 }
     {
-        seen[usize::from(self.0)]
+        seen[usize::from(self.0)] == 1
     }
 
     // Sets the flag of this id.
-    pub fn mark(self, seen: &mut [bool; TypeId::COUNT])
+    pub fn mark(self, seen: &mut [u8; TypeId::COUNT])
         requires { self.0 ≤ max_type_id }
-        ensures { seen.new ≡ set seen.old self.0 true }
+        ensures { seen.new ≡ set seen.old self.0 1 }
     {
-        seen[usize::from(self.0)] = true;
+        seen[usize::from(self.0)] = 1;
     }
 }
 
 // One id of the list, after those whose flag is set: 6, then 7, or its own flag is set.
-fn check_id(seen: &mut [bool; TypeId::COUNT], id: u8, at: Position) -> Result<(), Refusal>
+fn check_id(seen: &mut [u8; TypeId::COUNT], id: u8, at: Position) -> Result<(), Refusal>
     ensures { (numbered result ≡ checked_of (judged (id_fits_by seen.old id) at.0 id (at.0 + 1))) × (seen.new ≡ marked result seen.old id) }
 {
     if TypeId::LAST < id {
@@ -68,7 +68,7 @@ fn check_id(seen: &mut [bool; TypeId::COUNT], id: u8, at: Position) -> Result<()
 fn check_ids(ids: &[u8], fields: usize) -> Result<(), Refusal>
     ensures { numbered result ≡ checked_of (try_new ids.now fields [] 0) }
 {
-    let mut seen = [false; TypeId::COUNT];
+    let mut seen = [0u8; TypeId::COUNT];
     for (i, id) in ids.iter().enumerate() {
         if fields <= i {
             return Err(Refusal::from(Number::MoreIdsThanFields));

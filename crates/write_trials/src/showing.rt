@@ -15,7 +15,7 @@ pub fn show<F: FnOnce(&mut [u8], &mut [u8]) -> Result<usize, Refusal>>(
     let mut line = [0u8; 250];
     let answered = call(&mut work, &mut answer);
     let mut out = Output::new(&mut line);
-    line::put_line(&mut out, answered, &answer);
+    line::put_line(&mut out, Outcome::from(answered), &answer);
     let length = out.written;
     print!(rt; "{what}: ")?;
     rt.write_all(line.get(..length).unwrap_or(&line))

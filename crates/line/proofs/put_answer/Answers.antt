@@ -1,4 +1,5 @@
 -- `put_answer`: `-`, or the answer in hex.
+use native.Mathlib.Omega.{arith}
 use mathlib.Core.Path.{ap}
 use Rattle.std.proofs.lemmas.List.{take_min}
 use Rattle.model.specs.Sheet.{each}
@@ -7,9 +8,9 @@ use Rattle.buffer.proofs.Puts.{puts_same}
 use Rattle.line.proofs.Lines.{answer_refused, answer_part}
 use Rattle.line.proofs.put_answer.Goals as goal
 
-pub returns-in-Err : goal.returns-in-Err
-returns-in-Err c work = answer_refused _ work c.in-Err.is c.put_one.ensures
+pub returns-then-refused : goal.returns-then-refused
+returns-then-refused c work = answer_refused _ _ work c.if-refused.true c.put_one.ensures
 
-pub returns-in-Ok : goal.returns-in-Ok
-returns-in-Ok c work =
-    answer_part _ work c.in-Ok.is (puts_same (ap (each hex_byte) (rw c.min.ensures (take_min _ _))) c.put_hex.ensures)
+pub returns : goal.returns
+returns c work =
+    answer_part _ _ work (omega arith) (puts_same (ap (each hex_byte) (rw c.min.ensures (take_min _ _))) c.put_hex.ensures)

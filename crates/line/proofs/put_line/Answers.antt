@@ -7,4 +7,4 @@ use Rattle.line.proofs.put_line.Goals as goal
 
 pub returns : goal.returns
 returns c work =
-    line_put _ _ _ work c.from-outcome.ensures (puts_same (ap decimal c.from.ensures) c.put_decimal.ensures) c.put_one.ensures c.put_decimal-2.ensures c.put_one-2.ensures (c.put_answer.ensures work) c.put_one-3.ensures
+    line_put _ _ work (puts_same (ap decimal c.from.ensures) c.put_decimal.ensures) c.put_one.ensures c.put_decimal-2.ensures c.put_one-2.ensures (c.put_answer.ensures work) c.put_one-3.ensures

@@ -6,4 +6,4 @@ use Rattle.line.proofs.put_merged.Goals as goal
 pub returns : goal.returns
 unfolding zeros
 returns c =
-    line_as _ _ _ c.merge-answered.ensures c.put_line.ensures
+    line_as _ _ _ _ c.merge-answered.ensures c.from.ensures c.put_line.ensures

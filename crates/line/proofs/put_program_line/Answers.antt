@@ -4,7 +4,7 @@ use Rattle.line.proofs.put_program_line.Goals as goal
 
 pub returns-then-input-gt-MAX_PROGRAM_BYTES : goal.returns-then-input-gt-MAX_PROGRAM_BYTES
 returns-then-input-gt-MAX_PROGRAM_BYTES c =
-    too_long _ _ _ c.if-input-gt-MAX_PROGRAM_BYTES.true c.from.ensures c.put_line.ensures
+    too_long _ _ _ _ c.if-input-gt-MAX_PROGRAM_BYTES.true c.from.ensures c.from-then-input-gt-MAX_PROGRAM_BYTES.ensures c.put_line.ensures
 
 pub returns : goal.returns
 returns c =
