@@ -138,6 +138,16 @@ pub fields_way : (r : Step) (s : Bytes) (lim l n at : ℕ) → r ≡ step_of (re
 unfolding read_children
 fields_way r s lim l n at h = h
 
+-- one field is read as that field alone
+
+pub one_child : (r : Step) (s : Bytes) (lim l at : ℕ) → r ≡ step_of (read_field s lim l (read_type s lim l) 0 at) → r ≡ step_of (read_children s lim l (read_type s lim l) (fields 1) at)
+unfolding read_children read_many next
+one_child r s lim l at h = h ∙ sym (step_made (λ f. f ∷ []) (read_field s lim l (read_type s lim l) 0 at))
+
+pub one_field_way : (r : Step) (s : Bytes) (lim l n at : ℕ) → n ≡ 1 → r ≡ step_of (read_field s lim l (read_type s lim l) 0 at)
+    → r ≡ step_of (read_children s lim l (read_type s lim l) (fields n) at)
+one_field_way r s lim l n at e h = one_child r s lim l at h ∙ ap (λ k. step_of (read_children s lim l (read_type s lim l) (fields k) at)) (sym e)
+
 -- A sheet
 
 pub schema_way : (r : Step) (s : Bytes) (lim at : ℕ)

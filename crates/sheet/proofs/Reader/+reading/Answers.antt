@@ -1,7 +1,7 @@
 use Rattle.std.proofs.Math.Nat.{sub-add-eq}
 use native.Mathlib.Nat.{sub-zero}
 use Rattle.sheet.proofs.Ways.{ways, told_ok, told_err, item_stop, number_stop}
-use Rattle.sheet.proofs.TreeWays.{field_way, type_way, children_way, fields_way, dictionary_way, many_done, many_stop, many_again}
+use Rattle.sheet.proofs.TreeWays.{field_way, type_way, children_way, fields_way, one_field_way, dictionary_way, many_done, many_stop, many_again}
 use Rattle.sheet.proofs.Members.{members_begin, members_done, members_id_stop, members_field_stop, members_again, id_small}
 use native.Mathlib.Omega.{arith}
 use Rattle.model.specs.Bytes.{bit}
@@ -9,6 +9,10 @@ use Rattle.model.specs.Read.{read_children, read_list}
 use Rattle.layout.specs.Kinds.{children_of}
 use Rattle.sheet.specs.Shapes.{read_shape, no_ids}
 use Rattle.sheet.proofs.Reader.+reading.Goals as goal
+
+pub read_children-returns-in-Fields-eq1 : goal.read_children-returns-in-Fields-eq1
+unfolding children_of
+read_children-returns-in-Fields-eq1 t c = children_way _ _ _ _ _ _ _ c.in-Fields-eq1.ensures (one_field_way _ _ _ _ _ _ c.in-Fields-eq1.field-0-test c.read_field.ensures)
 
 pub read_children-returns-in-Fields : goal.read_children-returns-in-Fields
 unfolding children_of
