@@ -66,6 +66,11 @@ module _ {f : Result Unit Refusal} (b work answer : Bytes) (tested : numbered f 
       rw (e, w, pasted_zero answer b)
       (sym (choose_false _ _ _ (le-ltb max_sheet_bytes (length b) room.0) ∙ choose_false _ _ _ (le-ltb (length answer) (length b) room.1)))
 
+-- a refusal with the number of that test
+pub acceptance_err : (x : Refusal) (b work answer : Bytes) → ◌≡◌ {A = Result Unit (ℕ × ℕ)} (Err (number_of x.0, x.1)) (unless_refused (length_number (length b) (length answer)))
+    → leaves (Err x) answer work ≡ acceptance b work answer
+acceptance_err x b work answer t = acceptance_refused {f = Err x} b work answer t refl refl
+
 -- an answer that is another's
 pub settled_as : {x : Exit} {o p : Answer} (work answer : Bytes) → o ≡ p → x ≡ settled p work answer → x ≡ settled o work answer
 settled_as work answer e h = h ∙ sym (ap (λ o. settled o work answer) e)

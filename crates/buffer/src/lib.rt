@@ -169,6 +169,7 @@ pub fn length_fits(written: usize, room: usize) -> Result<(), Refusal>
 
 // 30, 31, or the bytes at the answer buffer's start. It holds whatever the work buffer has, so it also ends the calls that have none, and
 // those whose answer lies in the work buffer, which they clear next.
+#[tactic(auto, using(crate::proofs::Ends::acceptance_err, crate::proofs::Ends::acceptance_written, crate::proofs::Ends::length_room))]
 pub fn write_answer(answer: &mut [u8], bytes: &[u8]) -> Result<usize, Refusal>
     ensures { (work : Bytes) → leaves result answer.new work ≡ acceptance bytes.now work answer.old }
 {
@@ -177,8 +178,8 @@ pub fn write_answer(answer: &mut [u8], bytes: &[u8]) -> Result<usize, Refusal>
     Ok(bytes.len())
 }
 
-// The end of a call with a refusal after 32: the work buffer is cleared.
-pub fn refuse(work: &mut [u8], refusal: Refusal) -> Result<usize, Refusal>
+// The end of a call with a refusal after 32, whatever says the refusal: the work buffer is cleared.
+pub fn refuse<E>(work: &mut [u8], refusal: E) -> Result<usize, E>
     ensures { (result ≡ Err refusal) × (work.new ≡ zeros (length work.old)) }
 {
     clear(work);

@@ -1,7 +1,9 @@
 -- Stretches of the table of the types that have the same parameters, or the same children.
 use Prim.Native.Nat.{ℕ, ◌+◌, ◌-◌, ◌≤◌, ◌<◌}
 use native.Mathlib.Omega.{arith}
-use mathlib.Core.Path.{◌≡◌, sym, ap, ◌∙◌}
+use native.Mathlib.Decide.{dec_lt}
+use Prim.{yes, no}
+use mathlib.Core.Path.{◌≡◌, refl, sym, ap, ◌∙◌}
 use mathlib.Core.List.{map}
 use lib.ListN.{get_or, get_or-map, get_or-eq_default, take, drop, replicate}
 use Rattle.std.proofs.lemmas.List.{get_or-replicate, get_or-take, get_or-drop}
@@ -34,9 +36,13 @@ past : (code : ℕ) → 41 ≤ code → leaf ≡ layout code
 unfolding table layout
 past code h = sym (get_or-eq_default table leaf h)
 
-pub params_past : (code : ℕ) → 41 ≤ code → params_of None ≡ (layout code).params
-unfolding params_of
-params_past code h = ap (λ (l : Layout). l.params) (past code h)
+-- past the last that has any, a code has no parameters
+pub params_past : (code : ℕ) → 39 ≤ code → (code ≡ 39 → ⊥) → params_of None ≡ (layout code).params
+unfolding table params_of
+params_past code h n = elim (dec_lt code 41) [
+  | yes p ↦ params_within None 40 1 refl code (omega (arith, h, n)) (omega (arith, p))
+  | no p ↦ ap (λ (l : Layout). l.params) (past code (omega (arith, p)))
+]
 
 pub children_past : (code : ℕ) → 41 ≤ code → children_of (Fields 0) ≡ (layout code).children
 unfolding children_of

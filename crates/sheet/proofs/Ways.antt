@@ -148,15 +148,21 @@ module _ {A B : Type 0} (r : Step) (place : ℕ) (v : A) (e : ℕ) (f : A → �
       unfolding next unless
       judge_nle_then z h t = rw (lt-leb a b h, then_refuses k m z, refuses k place v e z) t
 
+      pub judge_lt_then : a < b → r ≡ step_of (next (judged m place v e) f) → r ≡ step_of (next (judged (unless (ltb a b) k then m) place v e) f)
+      unfolding next judged unless ◌then◌
+      judge_lt_then h t = rw (lt-ltb a b h) t
+
+      pub judge_nlt_then : ltb 0 k ≡ true → b ≤ a → r ≡ Err (k, place) → r ≡ step_of (next (judged (unless (ltb a b) k then m) place v e) f)
+      unfolding next unless
+      judge_nlt_then z h t = rw (le-ltb a b h, then_refuses k m z, refuses k place v e z) t
+
   -- levels are left, or none is
   module _ (l k m : ℕ) where
     pub judge_left_then : (l ≡ 0 → ⊥) → r ≡ step_of (next (judged m place v e) f) → r ≡ step_of (next (judged (unless (ltb 0 l) k then m) place v e) f)
-    unfolding next judged unless ◌then◌
-    judge_left_then h t = rw (lt-ltb 0 l (omega (arith, h))) t
+    judge_left_then h t = judge_lt_then 0 l k m (omega (arith, h)) t
 
     pub judge_none_then : ltb 0 k ≡ true → l ≡ 0 → r ≡ Err (k, place) → r ≡ step_of (next (judged (unless (ltb 0 l) k then m) place v e) f)
-    unfolding next unless
-    judge_none_then z h t = rw (le-ltb 0 l (omega (arith, h)), then_refuses k m z, refuses k place v e z) t
+    judge_none_then z h t = judge_nlt_then 0 l k m z (omega (arith, h)) t
 
   module _ (t d : Bool) (k : ℕ) where
     pub judge_true : d ≡ t → d ≡ true → r ≡ step_of (f v e) → r ≡ step_of (next (judged (unless t k) place v e) f)

@@ -11,6 +11,7 @@ use Rattle.model.specs.Bytes.{Bytes, u16, flag}
 use Rattle.model.specs.Tree.{Head, DataType, Field, layout}
 use Rattle.model.specs.Sheet.{front_bytes, each, part, stands, with_count, pair_bytes, text_bytes, head_bytes, field_bytes, children_bytes, type_bytes}
 use Rattle.model.specs.WellFormed.{WellFormedParams, LaidOut}
+use Rattle.model.proofs.Lists.{each_append}
 use Rattle.walk.specs.Stands.{Stands, Skips}
 use Rattle.walk.proofs.Standing.{first_stands, byte_stands, two_stands, num_u16, stands_behind, skip_ahead}
 use Rattle.walk.proofs.Parts.{Ahead, two_at, front_stands, map_stands}
@@ -87,3 +88,7 @@ module _ {s : Bytes} {place : ℕ} where
     pub elements_stand : (xs : List A) {m : ℕ} → Ahead s place 2 m → Stands s place (with_count f xs) → Stands s m (each f xs)
     unfolding with_count u16
     elements_stand xs a st = stands_behind (skip_ahead (u16 (length xs)) refl a.1) st
+
+    -- those behind the first ones
+    pub others_stand : (xs ys : List A) {m : ℕ} → Skips s place (each f xs) m → Stands s place (each f (xs ++ ys)) → Stands s m (each f ys)
+    others_stand xs ys p st = stands_behind p (subst (Stands s place) (each_append f xs ys) st)

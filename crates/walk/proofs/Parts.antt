@@ -70,7 +70,7 @@ module _ {s : Bytes} {place : ℕ} where
   part_if f set g e (x ∷ xs) h = g (sym h) (x ∷ xs)
 
   -- a dictionary number under a bit
-  dict_id_if : (set : Bool) {r : ℕ} → (set ≡ true → (n : ℕ) → Skips s place (u64 n) r) → (set ≡ false → r ≡ place) → (n : ℕ) → dict_id_stands n ≡ set → Skips s place (dict_id_bytes n) r
+  pub dict_id_if : (set : Bool) {r : ℕ} → (set ≡ true → (n : ℕ) → Skips s place (u64 n) r) → (set ≡ false → r ≡ place) → (n : ℕ) → dict_id_stands n ≡ set → Skips s place (dict_id_bytes n) r
   dict_id_if set g e zero h = subst (Skips s place []) (sym (e (sym h))) skip_none
   dict_id_if set g e (suc n) h = g (sym h) (suc n)
 
@@ -114,11 +114,11 @@ module _ {s : Bytes} {place : ℕ} where
   map_stands e h st = e ∙ byte_stands (front_stands h st)
 
   pub head_skips : {map end r : ℕ} {n : Bool} → map ≡ get_or s place 0 → ((h : Head) → Skips s place (front_bytes h) end)
-      → n ≡ bit 4 map → (n ≡ true → (k : ℕ) → Skips s end (u64 k) r) → (n ≡ false → r ≡ end) → (h : Head) → Skips s place (head_bytes h) r
+      → n ≡ bit 4 map → ((k : ℕ) → dict_id_stands k ≡ n → Skips s end (dict_id_bytes k) r) → (h : Head) → Skips s place (head_bytes h) r
   unfolding head_bytes bit
-  head_skips e f i k o h =
+  head_skips e f i g h =
       skip_when λ st.
-      skip_join (f h) (dict_id_if _ k o h.dict_id (sym (i ∙ ap (bit 4) (map_stands e h st) ∙ dict_id_set h)))
+      skip_join (f h) (g h.dict_id (sym (i ∙ ap (bit 4) (map_stands e h st) ∙ dict_id_set h)))
 
 -- Parameters
 

@@ -7,7 +7,7 @@ ghost use Rattle.std.specs.Prelude.{◌≡◌, ◌++◌, ℕ, ◌+◌, ◌*◌, 
 ghost use Rattle.model.specs.Bytes.{Bytes, Metadata, num, bit, u64};
 ghost use Rattle.model.specs.Tree.{Head, Schema, layout};
 ghost use Rattle.model.specs.Tree.Params.{timestamp};
-ghost use Rattle.model.specs.Sheet.{front_bytes, each, with_count, text_bytes, pair_bytes, head_bytes, sheet_bytes};
+ghost use Rattle.model.specs.Sheet.{front_bytes, dict_id_bytes, dict_id_stands, each, with_count, text_bytes, pair_bytes, head_bytes, sheet_bytes};
 ghost use Rattle.model.specs.WellFormed.{WellFormedParams};
 ghost use Rattle.model.specs.Datatype.{holds_fields};
 ghost use Rattle.buffer.specs.Puts.{Puts};
@@ -142,6 +142,14 @@ pub fn skip_if<F: FnOnce(&[u8], usize) -> usize>(s: &[u8], at: usize, set: bool,
     if set { skip(s, at) } else { at }
 }
 
+// A field's dictionary number under a bit of a map.
+#[inline(always)]
+pub fn skip_dict_id_if(s: &[u8], at: usize, set: bool) -> usize
+    ensures { (n : ℕ) → dict_id_stands n ≡ set → Skips s.now at (dict_id_bytes n) result }
+{
+    skip_if(s, at, set, skip_dict_id)
+}
+
 // A field's map and name.
 #[inline(always)]
 pub fn skip_name(s: &[u8], at: usize) -> usize
@@ -166,7 +174,7 @@ pub fn skip_head(s: &[u8], at: usize) -> usize
 {
     let map = byte(s, at);
     let number = skip_front(s, at);
-    skip_if(s, number, bit(map, 4), skip_dict_id)
+    skip_dict_id_if(s, number, bit(map, 4))
 }
 
 // How many bytes parameters of a kind take, a time stamp's without its zone.

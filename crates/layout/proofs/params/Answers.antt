@@ -44,4 +44,4 @@ returns-in_default-2 c = elim (dec_lt c.args.code 21) [ yes h21 ↦ params_withi
 
 pub returns-in_default-3 : goal.returns-in_default-3
 unfolding table params_of
-returns-in_default-3 c = elim (dec_lt c.args.code 41) [ yes h41 ↦ params_within None 40 1 refl c.args.code (grind arith) (omega arith) | no h41 ↦ params_past c.args.code (omega arith) ]
+returns-in_default-3 c = params_past c.args.code (grind arith) (grind arith)
