@@ -121,3 +121,8 @@ module _ {s : Bytes} (separator : Bytes) (maxLevel : ℕ) (path : List ℕ) (fro
               (children_columns separator maxLevel from.place l path (λ v. up (lift l v)) hs f.head ks ∙ sym (expand_children separator maxLevel l up (length path) _ _ x same))
               (inner.adds v);
         }
+
+-- what is done below a path is done below one that is equal
+pub expands_at : {s : Bytes} (separator : Bytes) (maxLevel : ℕ) {path path' : List ℕ} {o o' : Output} {from to : Reach} → path ≡ path'
+    → ExpandsField s separator maxLevel path o o' from to → ExpandsField s separator maxLevel path' o o' from to
+expands_at {s} separator maxLevel {o = o} {o' = o'} {from = from} {to = to} e f = subst (λ p. ExpandsField s separator maxLevel p o o' from to) e f

@@ -3,7 +3,7 @@
 // as it is written. The columns are gone over twice: into a buffer of no bytes for their length and number, then into the answer buffer.
 #![tactic(auto)]
 
-ghost use Rattle.std.specs.Prelude.{◌≡◌, ℕ, List, [], ◌∷◌, ◌++◌, ◌&&◌, ◌||◌, ◌≤◌, ◌<◌, length, take, eqb, ltb, MatchOption};
+ghost use Rattle.std.specs.Prelude.{◌≡◌, ℕ, List, [], ◌∷◌, ◌++◌, ◌&&◌, ◌||◌, ◌≤◌, ◌<◌, length, take, eqb, ltb, leb};
 ghost use Rattle.model.specs.Numbers.{max_levels};
 ghost use Rattle.model.specs.Tree.{Head, Schema, Struct};
 ghost use Rattle.model.specs.Sheet.{head_bytes, sheet_bytes};
@@ -61,19 +61,28 @@ impl Path {
         &self.places[..self.depth]
     }
 
-    // The path of the children of a field that stands at a place, unless no field is so deep.
-    fn below(&self, at: usize) -> Option<Self>
-        ensures { MatchOption result (max_levels ≤ length self.now) (λ p. (length self.now < max_levels) × (p ≡ self.now ++ at ∷ [])) }
+    // Whether it has no room for the place of one more field.
+    fn is_full(&self) -> bool
+        ensures { result ≡ leb max_levels (length self.now) }
     {
-        if Cursor::LEVELS <= self.depth {
-            return None;
-        }
-        let mut places = self.places;
-        places[self.depth] = at;
-        Some(Self {
-            places,
-            depth: self.depth + 1,
-        })
+        Cursor::LEVELS <= self.depth
+    }
+
+    // Adds the place of a field, on the way to its children.
+    fn push(&mut self, at: usize)
+        requires { length self.old < max_levels }
+        ensures { self.new ≡ self.old ++ at ∷ [] }
+    {
+        self.places[self.depth] = at;
+        self.depth += 1;
+    }
+
+    // Takes the last place away again, on the way back.
+    fn pop(&mut self)
+        requires { 0 < length self.old }
+        ensures { (path : List ℕ) (at : ℕ) → self.old ≡ path ++ at ∷ [] → self.new ≡ path }
+    {
+        self.depth -= 1;
     }
 }
 
@@ -173,30 +182,40 @@ impl Expansion<'_> {
         code == STRUCT && (self.max_level == 0 || depth < usize::from(self.max_level))
     }
 
-    // A turn of the Rust's loop: a Struct that is expanded becomes the columns of its children, any other field is one column.
+    // A turn of the Rust's loop: a Struct that is expanded becomes the columns of its children, any other field is one column. The path is
+    // longer while the children are gone over, and as it was then.
     #[cycle(expanding)]
-    fn expand_field(&self, out: &mut Output<'_>, from: Reach, path: &Path) -> Reach
-        ensures { ExpandsField self.now.sheet.now self.now.separator.now self.now.max_level path.now out.old out.new from result }
+    fn expand_field(&self, out: &mut Output<'_>, from: Reach, path: &mut Path) -> Reach
+        ensures { (path.new ≡ path.old) × ExpandsField self.now.sheet.now self.now.separator.now self.now.max_level path.old out.old out.new from result }
     {
         let data_type = walk::skip_head(self.sheet, from.place);
         if !self.expands(walk::byte(self.sheet, data_type), path.places().len()) {
             return self.put_column(out, from, path);
         }
-        let Some(longer) = path.below(from.place) else {
+        if path.is_full() {
             return from;
-        };
+        }
+        path.push(from.place);
         let fields = Elements::counted(self.sheet, walk::ahead(self.sheet, data_type, 1));
         let first = Reach {
             place: fields.at,
             ..from
         };
-        self.expand_fields(out, first, fields.count, &longer)
+        let reach = self.expand_fields(out, first, fields.count, path);
+        path.pop();
+        reach
     }
 
     // So many fields, one behind the other. It stops once they are known to pass the longest answer.
     #[cycle(expanding)]
-    fn expand_fields(&self, out: &mut Output<'_>, from: Reach, count: usize, path: &Path) -> Reach
-        ensures { ExpandsFields self.now.sheet.now self.now.separator.now self.now.max_level path.now count out.old out.new from result }
+    fn expand_fields(
+        &self,
+        out: &mut Output<'_>,
+        from: Reach,
+        count: usize,
+        path: &mut Path,
+    ) -> Reach
+        ensures { (path.new ≡ path.old) × ExpandsFields self.now.sheet.now self.now.separator.now self.now.max_level path.old count out.old out.new from result }
     {
         let mut reach = from;
         for _ in 0..count {
@@ -217,7 +236,7 @@ impl Expansion<'_> {
             place: columns.at,
             count: 0,
         };
-        self.expand_fields(out, first, columns.count, &Path::new())
+        self.expand_fields(out, first, columns.count, &mut Path::new())
             .count
     }
 

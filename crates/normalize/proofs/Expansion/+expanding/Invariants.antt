@@ -1,4 +1,5 @@
 -- Fields and the fields below them. The depth rises from a field to its children, up to the levels that there are.
+use mathlib.Core.Path.{◌≡◌}
 use mathlib.Core.List.{List}
 use Prim.Native.Nat.{ℕ, ◌+◌, ◌*◌, ◌-◌, ◌≤◌}
 use lib.ListN.{length}
@@ -18,5 +19,6 @@ decreases-expand_fields l = 2 * (max_levels - length l.path.now) + 1
 
 abbrev pub invariant-expand_fields-loop : goal.invariant-expand_fields-loop
 invariant-expand_fields-loop v =
-    (l : ℕ) (up : DataType l → DataType max_levels) (hs : List Head) → l + length v.path ≤ max_levels → Lifts l up → Above v.self.sheet.now v.path hs
-    → Turns (λ k. LaidOut l k.data_type) (field_bytes (type_bytes l)) (columns_of v.self.separator.now v.self.max_level (length v.path) l up hs) v.self.sheet.now v.count (v.count - v.counter) v.initial.out v.out v.initial.reach v.reach
+    (v.path ≡ v.initial.path)
+    × ((l : ℕ) (up : DataType l → DataType max_levels) (hs : List Head) → l + length v.initial.path ≤ max_levels → Lifts l up → Above v.self.sheet.now v.initial.path hs
+    → Turns (λ k. LaidOut l k.data_type) (field_bytes (type_bytes l)) (columns_of v.self.separator.now v.self.max_level (length v.initial.path) l up hs) v.self.sheet.now v.count (v.count - v.counter) v.initial.out v.out v.initial.reach v.reach)
