@@ -386,14 +386,16 @@ impl Table<'_> {
         self.overwrite(at, &[Kind::Raw as u8, a, b, c]);
     }
 
-    // Puts bytes in at a place: what is in use behind it moves on.
+    // Puts bytes in at a place: what is in use behind it moves on. It moves within the part that begins at the place: the compiler makes a
+    // `memmove` of that, and a slow loop of the same move within the whole buffer.
     pub fn insert(&mut self, at: usize, v: &[u8])
         ensures { Edits (λ _. Inserts at v.now) self.old self.new }
     {
         if self.used < at || self.w.len() < self.used || self.w.len() - self.used < v.len() {
             return;
         }
-        self.w.copy_within(at..self.used, at + v.len());
+        let behind = self.used - at;
+        self.w[at..].copy_within(..behind, v.len());
         self.w[at..at + v.len()].copy_from_slice(v);
         self.used += v.len();
     }
