@@ -11,7 +11,7 @@ ghost use Rattle.buffer.specs.Buffer.{pasted};
 ghost use Rattle.walk.specs.Stands.{Stands, Skips};
 ghost use Rattle.table.specs.Table.{three, kind_of, u24, no_place, no_entry, places_bytes, SpellField, SpellType, SpellRow};
 ghost use Rattle.table.specs.Look.{NamesPlace, SkipsPlaces, SkipsHead, NamesEntry, Cut, Finds};
-ghost use Rattle.table.specs.Entries.{SkipsEntries};
+ghost use Rattle.table.specs.Entries.{SkipsEntries, PeeksEntry};
 ghost use Rattle.table.specs.Opened.{InsertsEntry, OpensRow, OpensList};
 ghost use Rattle.table.specs.Edits.{Overwrites, SetsByte, TakesType, Inserts, InsertsPlace};
 ghost use Rattle.table.specs.Edited.{Rewrites, Edits};
@@ -195,6 +195,16 @@ impl<'a> EntryRow<'a> {
     {
         EntryRow { w, at, levels }
     }
+
+    // The place of the entry that `next` gives, before it is passed: a look-up stops at the entry that it finds, and walks none of it.
+    pub fn peek(&self) -> Option<usize>
+        ensures { PeeksEntry self.now result }
+    {
+        if self.w.len() <= self.at || walk::byte(self.w, self.at) == NO_ENTRY {
+            return None;
+        }
+        Some(self.at)
+    }
 }
 
 impl Iterator for EntryRow<'_> {
@@ -210,10 +220,7 @@ impl Iterator for EntryRow<'_> {
 
     // An entry is not empty: where none is passed, none stands.
     fn next(&mut self) -> Option<usize> {
-        let place = self.at;
-        if self.w.len() <= place || walk::byte(self.w, place) == NO_ENTRY {
-            return None;
-        }
+        let place = self.peek()?;
         let behind = next_entry(self.w, place, self.levels);
         if behind <= place {
             return None;
@@ -253,10 +260,15 @@ fn scan(s: &[u8], w: &[u8], row: usize, name: &[u8], levels: usize) -> Result<us
     ensures { (l k : ℕ) (y : Bytes) (fs : List (Field l)) (n : Bytes) → l ≤ levels → SpellRow l s.now k y fs → Stands w.now row y → name.now ≡ part text_bytes n → Finds l s.now row k y fs n result }
 {
     let mut entries = EntryRow::new(w, row, levels);
-    let named = |place: &usize|
-        ensures { NamesEntry s.entry.now w.entry.now place.now name.entry.now result }
-    { has_entry_name(s, w, *place, name) };
-    entries.find(named).ok_or(entries.at)
+    while let Some(place) = entries.peek() {
+        if has_entry_name(s, w, place, name) {
+            return Ok(place);
+        }
+        if entries.next().is_none() {
+            return Err(place);
+        }
+    }
+    Err(entries.at)
 }
 
 // The schema merged so far: the first `used` bytes of the work buffer, which name places of the train.
