@@ -230,15 +230,15 @@ impl Iterator for EntryRow<'_> {
     }
 }
 
-// The place of the train that stands behind one byte: that of an entry's first occurrence behind its flags, and a type's behind its kind. By
-// one test of the room: a row may have thousands of entries, and the look-up of a name reads the place of each.
+// The place of the train that stands behind one byte: that of an entry's first occurrence behind its flags, and a type's behind its kind. A
+// row may have thousands of entries, and the look-up of a name reads the place of each, behind `peek`, which made the first test.
 pub fn place_at(w: &[u8], at: usize) -> usize
     ensures { NamesPlace w.now at result × (result < 16777216) }
 {
-    match w.get(at..) {
-        Some([_, a, b, c, ..]) => u32::from_le_bytes([*a, *b, *c, 0]) as usize,
-        _ => 0,
+    if w.len() <= at || w.len() - at < 4 {
+        return 0;
     }
+    u32::from_le_bytes([w[at + 1], w[at + 2], w[at + 3], 0]) as usize
 }
 
 // Whether the entry that stands at a place of the table has a name, which is given as `name_of` gives one.
