@@ -1,6 +1,7 @@
 // The schema merged so far, as a table in the work buffer: reading it, editing it in place, and looking up a name. Document 01, "What must
 // change shape": "`Arc`, `Vec`, `Box` trees: work on sheet bytes with a cursor, or node tables in arrays." What the bytes mean is in
-// specs/Table.antt. The functions take any bytes and any places; where the parts that they are for stand there, they do what they say.
+// specs/Table.antt. The functions take any bytes and any places, and a `Table` any number of bytes in use; where the parts that they are for
+// stand there, they do what they say.
 #![tactic(auto)]
 
 ghost use Rattle.std.specs.Prelude.{◌≡◌, List, [], ◌∷◌, ◌++◌, ℕ, suc, ◌+◌, ◌*◌, ◌/◌, ◌%◌, ◌≤◌, ◌<◌, length, take, drop, get_or, false, cond, ◌||◌, eqb};
@@ -241,6 +242,13 @@ pub fn place_at(w: &[u8], at: usize) -> usize
     u32::from_le_bytes([w[at + 1], w[at + 2], w[at + 3], 0]) as usize
 }
 
+// The code of the type whose entry stands at a place.
+pub fn code_at(s: &[u8], w: &[u8], at: usize) -> usize
+    ensures { (l : ℕ) (first : DataType (suc l)) (k : ℕ) (y : Bytes) (a : DataType (suc l)) → SpellType (suc l) s.now first k y a → Stands w.now at y → result ≡ a.code }
+{
+    walk::byte(s, place_at(w, at))
+}
+
 // Whether the entry that stands at a place of the table has a name, which is given as `name_of` gives one.
 fn has_entry_name(s: &[u8], w: &[u8], at: usize, name: &[u8]) -> bool
     ensures { NamesEntry s.now w.now at name.now result }
@@ -271,6 +279,26 @@ fn scan(s: &[u8], w: &[u8], row: usize, name: &[u8], levels: usize) -> Result<us
     Err(entries.at)
 }
 
+// The look-up of the merge: `SchemaBuilder::try_merge` looks for the first field of a name; no two entries of a row have one, so any is the
+// first. Names that come in the order of the row are found at the hint, the place behind the entry that was found last. It gives the entry's
+// place, or, as `binary_search` does, the one where such an entry goes: the row's end.
+pub fn find(
+    s: &[u8],
+    w: &[u8],
+    row: usize,
+    hint: usize,
+    q: usize,
+    levels: usize,
+) -> Result<usize, usize>
+    ensures { (l k : ℕ) (y : Bytes) (fs : List (Field l)) (g : Head) → l ≤ levels → SpellRow l s.now k y fs → Stands w.now row y → Stands s.now q (head_bytes g) → Cut l s.now row k y fs hint → Finds l s.now row k y fs g.name result }
+{
+    let name = name_of(s, q);
+    if is_named(s, w, hint, name) {
+        return Ok(hint);
+    }
+    scan(s, w, row, name, levels)
+}
+
 // The schema merged so far: the first `used` bytes of the work buffer, which name places of the train.
 #[derive(Drop)]
 pub struct Table<'a> {
@@ -285,11 +313,26 @@ impl<'a> Table<'a> {
         ensures same_reference { result.w.ghost_name ≡ w.entry.ghost_name }
         ensures empty { (result.train.now ≡ train.now) × (result.w.now ≡ w.old) × (result.used ≡ 0) }
     {
-        Table { train, w, used: 0 }
+        Self::with_used(train, w, 0)
+    }
+
+    // Of which so many bytes are in use.
+    pub fn with_used(train: &'a [u8], w: &'a mut [u8], used: usize) -> Self
+        ensures same_reference { result.w.ghost_name ≡ w.entry.ghost_name }
+        ensures holds { (result.train.now ≡ train.now) × (result.w.now ≡ w.old) × (result.used ≡ used) }
+    {
+        Table { train, w, used }
     }
 }
 
 impl Table<'_> {
+    // How many bytes of the buffer are in use.
+    pub fn used(&self) -> usize
+        ensures { result ≡ self.now.used }
+    {
+        self.used
+    }
+
     // A byte of the table. Those past its end are 0.
     pub fn byte(&self, at: usize) -> usize
         ensures { (result ≡ get_or self.now.w.now at 0) × (result < 256) }
@@ -329,7 +372,7 @@ impl Table<'_> {
     pub fn code_at(&self, at: usize) -> usize
         ensures { (l : ℕ) (first : DataType (suc l)) (k : ℕ) (y : Bytes) (a : DataType (suc l)) → SpellType (suc l) self.now.train.now first k y a → Stands self.now.w.now at y → result ≡ a.code }
     {
-        walk::byte(self.train, self.place_at(at))
+        code_at(self.train, self.w, at)
     }
 
     // The row of places that begins at a place of the table.
@@ -360,21 +403,15 @@ impl Table<'_> {
         next_entry(self.w, at, levels)
     }
 
-    // The look-up of the merge: `SchemaBuilder::try_merge` looks for the first field of a name; no two entries of a row have one, so any is the
-    // first. Names that come in the order of the row are found at the hint, the place behind the entry that was found last. It gives the entry's
-    // place, or, as `binary_search` does, the one where such an entry goes: the row's end.
+    // The place of the entry that has the name of a field of the train, or the row's end.
     pub fn find(&self, row: usize, hint: usize, q: usize, levels: usize) -> Result<usize, usize>
         ensures { (l k : ℕ) (y : Bytes) (fs : List (Field l)) (g : Head) → l ≤ levels → SpellRow l self.now.train.now k y fs → Stands self.now.w.now row y → Stands self.now.train.now q (head_bytes g) → Cut l self.now.train.now row k y fs hint → Finds l self.now.train.now row k y fs g.name result }
     {
-        let name = name_of(self.train, q);
-        if is_named(self.train, self.w, hint, name) {
-            return Ok(hint);
-        }
-        scan(self.train, self.w, row, name, levels)
+        find(self.train, self.w, row, hint, q, levels)
     }
 
     // Writes bytes over as many that stand at a place.
-    fn overwrite(&mut self, at: usize, v: &[u8])
+    pub fn overwrite(&mut self, at: usize, v: &[u8])
         ensures { Rewrites (λ _. Overwrites at v.now) self.old self.new }
     {
         if self.w.len() < at || self.w.len() - at < v.len() {
