@@ -92,13 +92,12 @@ fn has_id(s: &[u8], mut row: PlaceRow<'_>, id: usize) -> bool
 
 // `UnionFields::try_new` at its end: no id twice, so none that one behind has too. Ids are bytes and of 257 children two have one id, so there
 // are at most 256 turns.
-pub fn ids_differ(table: &Table<'_>, row: usize) -> bool
-    ensures { TellsIds table.now.train.now table.now.w.now row result }
+pub fn ids_differ(s: &[u8], row: PlaceRow<'_>) -> bool
+    ensures { TellsIds s.now row.entry.w.now row.entry.at result }
 {
-    let train = table.train;
-    let mut behind = table.places(row);
+    let mut behind = row;
     while let Some(there) = behind.next() {
-        if has_id(train, behind, walk::byte(train, there)) {
+        if has_id(s, behind, walk::byte(s, there)) {
             return false;
         }
     }
@@ -156,7 +155,7 @@ pub fn merge_union(table: &mut Table<'_>, at: usize, t: usize, levels: usize) ->
     open_union(table, at, levels);
     let row = table.ahead(at, 4);
     merge_members(table, row, children, levels)?;
-    if ids_differ(table, row) {
+    if ids_differ(table.train, table.places(row)) {
         return Ok(());
     }
     Err(Number::TypeIdClash)

@@ -1,11 +1,13 @@
 -- What is in use of the work buffer, read and edited: a stretch between what stands before and behind it.
 use mathlib.Core.Path.{◌≡◌, sym, ap, ◌∙◌}
-use mathlib.Core.List.{[], ◌++◌, append_assoc}
+use mathlib.Core.List.{[], ◌++◌, append_assoc, append-nil}
 use Prim.Native.Nat.{ℕ, ◌+◌, ◌-◌, ◌≤◌}
 use native.Mathlib.Omega.{arith}
-use lib.ListN.{length, take, drop, length-append, take-append-drop}
-use lib.Seq.{paste, take_at, drop_at, length-take-le, take-append-le, take-take}
-use Rattle.std.proofs.lemmas.List.{take_all}
+use lib.ListN.{length, take, drop, length-append, length-drop, take-append-drop}
+use lib.Seq.{paste, take_at, drop_at, length-take-le, take-append-le, take-take, take-add, drop-drop}
+use borrow.Rule.Slice.PartMut.{mid_of, put_mid}
+use Rattle.std.specs.List.{copy_within}
+use Rattle.std.proofs.lemmas.List.{take_all, drop_all}
 use Rattle.model.specs.Bytes.{Bytes}
 use Rattle.walk.specs.Stands.{Stands}
 use Rattle.walk.proofs.Standing.{rest_stands}
@@ -42,6 +44,17 @@ module _ {w : Bytes} {used : ℕ} {x y z : Bytes} (h : Held w used x y z) where
   -- seen from afar, or nearer
   pub held_as : {x' y' z' : Bytes} → x ++ (y ++ z) ≡ x' ++ (y' ++ z') → Held w used x' y' z'
   held_as e = record { fits = h.fits; is = h.is ∙ e }
+
+-- the bytes from p on, moved on by d in the part of the buffer that begins there
+pub moved_on : (w : Bytes) (p k d n : ℕ) {part : Bytes} → length w ≡ p + k → part ≡ copy_within (mid_of p k w) 0 n d → put_mid p k w part ≡ paste w (p + d) (drop p w) n
+moved_on w p k d n {part} h e =
+    let long = length-drop p w in
+    let whole : mid_of p k w ≡ drop p w = take_all k (drop p w) (omega arith) in
+    let all : n - 0 ≡ n = omega arith in
+    let none : drop k (drop p w) ≡ [] = drop_all k (drop p w) (omega arith) in
+    let moved : part ++ drop k (drop p w) ≡ paste (drop p w) d (drop p w) n = rw none (append-nil part ∙ e ∙ ap (paste (mid_of p k w) d (mid_of p k w)) all ∙ ap (λ t. paste t d t n) whole) in
+    let behind : drop (d + n) (drop p w) ≡ drop (p + d + n) w = drop-drop (d + n) p w ∙ ap (λ m. drop m w) (omega arith) in
+    ap (λ t. take p w ++ t) moved ∙ rw (behind, take-add p d w) (simp append_assoc)
 
 take_front : (p n : ℕ) (w r : Bytes) → p ≤ n → length (take n w) ≡ n → take p (take n w ++ r) ≡ take p w
 take_front p n w r h e = let i : p ≤ length (take n w) = omega (arith, h, e) in take-append-le p (take n w) r i ∙ take-take p n w h

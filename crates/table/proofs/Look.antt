@@ -13,16 +13,11 @@ use Rattle.walk.specs.Stands.{Stands, Skips}
 use Rattle.walk.proofs.Standing.{first_stands, second_stands, byte_stands}
 use Rattle.walk.proofs.Descents.{head_stands}
 use Rattle.table.specs.Table.{no_entry, Rows, none, more, SpellField, SpellRow}
-use Rattle.table.specs.Entries.{SkipsEntries, NoEntry, StepsOver, GivesEntry}
+use Rattle.table.specs.Entries.{SkipsEntries, NoEntry, StepsOver, PeeksEntry, GivesEntry}
 use Rattle.table.specs.declared.EntryRow.{EntryRow}
 use Rattle.table.specs.Look.{NamesPlace, NamesEntry, Cut, FoundAt, Finds}
-use denote.Ref.{Bor}
-use denote.Param.Members.{Mut}
 use Rattle.std.proofs.Common.{Option, Some, None, Result, Ok, Err}
-use Rattle.std.specs.Fn.{Called, CalledAt}
-use Rattle.std.specs.Option.{IfSome, ok_or}
-use Rattle.std.specs.List.{FoldsTo}
-use Rattle.std.specs.Iterator.{Yields, FindsItem}
+use Rattle.std.specs.Option.{is_some}
 use Rattle.table.proofs.Entries.{SkipsRows, steps_over}
 
 -- what `has_name` of a field of the train ensures
@@ -227,72 +222,80 @@ module _ {s w : Bytes} (row : ℕ) (name : Bytes) (levels : ℕ) where
   pub scan_begin : Scan s w row name levels row
   scan_begin = record { passed = λ l k y fs n h p st u. record { cut = row_begin p; others = tt } }
 
-  module _ {place next : ℕ} (c : Scan s w row name levels place) where
-    pub scan_absent : StepsOver w place levels None next → FindsIn s w row name levels (Err next)
-    scan_absent (e, never) l k y fs n i p st u =
+  module _ {place : ℕ} (c : Scan s w row name levels place) where
+    pub scan_absent : NoEntry w place levels → FindsIn s w row name levels (Err place)
+    scan_absent never l k y fs n i p st u =
         let d = c.passed l k y fs n i p st u in
         let (left, mark, end) = cut_ends d.cut st i never in
         record {
           others = subst (Every (λ f. same_bytes f.head.name n ≡ false)) (sym (d.cut.fields ∙ ap (λ z. d.cut.before ++ z) left ∙ append-nil d.cut.before)) d.others;
-          end = omega (arith, e, end);
+          end = end;
         }
 
-    module _ {x : ℕ} (g : StepsOver w place levels (Some x) next) {b : Bool} (v : NamesEntry s w x name b) where
+    module _ (never : get_or w place 0 ≡ no_entry → ⊥) {b : Bool} (v : NamesEntry s w place name b) where
       here : {l k : ℕ} {y : Bytes} {fs : List (Field l)} (d : Cut l s row k y fs place) (st : Stands w row y) → Next d st
-      here d st = next_entry d st g.1
+      here d st = next_entry d st never
 
       verdict : {l k : ℕ} {y : Bytes} {fs : List (Field l)} (n : Bytes) (d : Cut l s row k y fs place) (st : Stands w row y) → name ≡ part text_bytes n
           → b ≡ same_bytes (here d st).this.head.name n
-      verdict {l} n d st u =
-          let a = here d st in
-          subst (λ m. NamesEntry s w m name b) g.0 v l a.this_room a.this_bytes a.this n a.spelt (first_stands a.this_bytes _ a.stands) u
+      verdict {l} n d st u = let a = here d st in v l a.this_room a.this_bytes a.this n a.spelt (first_stands a.this_bytes _ a.stands) u
 
-      pub scan_found : b ≡ true → FindsIn s w row name levels (Ok x)
+      pub scan_found : b ≡ true → FindsIn s w row name levels (Ok place)
       scan_found h l k y fs n i p st u =
           let d = c.passed l k y fs n i p st u in
-          subst (FoundAt l s row k y fs n) (sym g.0) (found_here d.cut st (here d.cut st) (sym (verdict n d.cut st u) ∙ h))
+          found_here d.cut st (here d.cut st) (sym (verdict n d.cut st u) ∙ h)
 
-      pub scan_again : b ≡ false → Scan s w row name levels next
-      scan_again h = record {
+      pub scan_again : {next : ℕ} → b ≡ false → SkipsEntries w place levels next → Scan s w row name levels next
+      scan_again h g = record {
         passed = λ l k y fs n i p st u.
             let d = c.passed l k y fs n i p st u in
             let a = here d.cut st in
             record {
-              cut = cut_behind d.cut st a (g.4 l s a.this_room a.this_bytes a.this i a.spelt);
+              cut = cut_behind d.cut st a (g l s a.this_room a.this_bytes a.this i a.spelt);
               others = every_append (λ f. same_bytes f.head.name n ≡ false) d.cut.before (a.this ∷ []) d.others (sym (verdict n d.cut st u) ∙ h, tt);
             };
       }
 
--- The entries that `find` goes over
+-- The row that `scan` goes over
 
--- what is left of the row, none before it having the name
-abbrev Scanning : (s w : Bytes) (row : ℕ) (name : Bytes) (levels : ℕ) → EntryRow → Type 0
+-- what is left of it, none before it having the name
+abbrev pub Scanning : (s w : Bytes) (row : ℕ) (name : Bytes) (levels : ℕ) → EntryRow → Type 0
 Scanning s w row name levels r = (r.w.now ≡ w) × (r.levels ≡ levels) × Scan s w row name levels r.at
 
-module _ {s w : Bytes} (row : ℕ) (name : Bytes) (levels : ℕ) {F : Type 0} (g : Mut F (Bor ℕ × Unit {0}) Bool) (f : F)
-    (tells : (p : Bor ℕ) (b : Bool) (q : F) → Called g f (p, tt) b q → (q ≡ f) × NamesEntry s w p.now name b) where
-  tells_at : (x : ℕ) {p : F} {b : Bool} {q : F} → p ≡ f → CalledAt g p x b q → (q ≡ f) × NamesEntry s w x name b
-  tells_at x {b = b} {q = q} e k =
-      let (stays, v) = tells k.shown b q (subst (λ p. Called g p (k.shown, tt) b q) e k.called) in
-      (stays, subst (λ m. NamesEntry s w m name b) k.shows v)
+module _ {s w : Bytes} (row : ℕ) (name : Bytes) (levels : ℕ) (r : EntryRow) where
+  pub scanning_begin : (r.w.now ≡ w) × (r.at ≡ row) × (r.levels ≡ levels) → Scanning s w row name levels r
+  scanning_begin i = (i.0, i.2, subst (Scan s w row name levels) (sym i.1) (scan_begin _ _ _))
 
-  passes : (xs : List ℕ) (r t : EntryRow) (p q : F) → p ≡ f → Scanning s w row name levels r → Yields GivesEntry r xs t → FoldsTo (λ p x q. CalledAt g p x false q) p xs q
-      → Scanning s w row name levels t × (q ≡ f)
-  passes [] r t p q i k e d = (subst (Scanning s w row name levels) e k, sym d ∙ i)
-  passes (x ∷ xs) r t p q i k (u, h, e) (j, called, d) =
-      let (stays, v) = tells_at x i called in
-      let (a, m, o) = steps_over r u (Some x) k.0 k.1 h in
-      passes xs u t j q stays (a, m, scan_again _ _ _ k.2 o v refl) e d
+  module _ (k : Scanning s w row name levels r) where
+    -- no entry is left
+    pub scanning_ends : PeeksEntry r None → FindsIn s w row name levels (Err r.at)
+    scanning_ends never = scan_absent _ _ _ k.2 (subst (λ v. NoEntry v r.at levels) k.0 (subst (λ m. NoEntry r.w.now r.at m) k.1 never))
 
-  pub scan_finds : (r u : EntryRow) → (r.w.now ≡ w) × (r.at ≡ row) × (r.levels ≡ levels) → (o : Option ℕ) → FindsItem GivesEntry g r f o u → FindsIn s w row name levels (ok_or o u.at)
-  scan_finds r u i o (xs, q, (t, e, h), d, z) =
-      let (k, stays) = passes xs r t f q refl (i.0, i.2, subst (Scan s w row name levels) (sym i.1) (scan_begin _ _ _)) e d in
-      ends u.at k.2 o (steps_over t u o k.0 k.1 h).2 z stays
-    where
-      ends : {place : ℕ} (next : ℕ) → Scan s w row name levels place → (o : Option ℕ) → StepsOver w place levels o next → IfSome o (λ x. (h : F) × CalledAt g q x true h) → q ≡ f
-          → FindsIn s w row name levels (ok_or o next)
-      ends next k None h z stays = scan_absent _ _ _ k h
-      ends next k (Some x) h z stays = scan_found _ _ _ k h (tells_at x stays z.1).1 refl
+    module _ {place : ℕ} (p : PeeksEntry r (Some place)) {b : Bool} (v : NamesEntry s w place name b) where
+      never : get_or w r.at 0 ≡ no_entry → ⊥
+      never e = p.1 (ap (λ x. get_or x r.at 0) k.0 ∙ e)
+
+      at_row : NamesEntry s w r.at name b
+      at_row = subst (λ m. NamesEntry s w m name b) p.0 v
+
+      pub scanning_found : b ≡ true → FindsIn s w row name levels (Ok place)
+      scanning_found h = subst (λ m. FindsIn s w row name levels (Ok m)) (sym p.0) (scan_found _ _ _ k.2 never at_row h)
+
+      -- the entry that was looked at is passed, or it is none
+      module _ (o : Option ℕ) (t : EntryRow) (g : GivesEntry r o t) where
+        pub scanning_stuck : is_some o ≡ false → FindsIn s w row name levels (Err place)
+        scanning_stuck e = go o e (steps_over r t o k.0 k.1 g).2
+          where
+            go : (o : Option ℕ) → is_some o ≡ false → StepsOver w r.at levels o t.at → FindsIn s w row name levels (Err place)
+            go None e q = subst (λ m. FindsIn s w row name levels (Err m)) (sym p.0) (scan_absent _ _ _ k.2 q.1)
+            go (Some x) e q = absurd (false≢true (sym e))
+
+        pub scanning_on : b ≡ false → is_some o ≡ true → Scanning s w row name levels t × (r.at < t.at) × (r.at < length w)
+        scanning_on h e = go o e (steps_over r t o k.0 k.1 g)
+          where
+            go : (o : Option ℕ) → is_some o ≡ true → (t.w.now ≡ w) × (t.levels ≡ levels) × StepsOver w r.at levels o t.at → Scanning s w row name levels t × (r.at < t.at) × (r.at < length w)
+            go None e q = absurd (false≢true e)
+            go (Some x) e (a, m, q) = ((a, m, scan_again _ _ _ k.2 never at_row h q.4), q.3, q.2)
 
 -- the entry at the hint
 pub hint_found : {s w : Bytes} {row hint : ℕ} {name : Bytes} {b : Bool} → b ≡ true → NamesEntry s w hint name b × (get_or w hint 0 ≡ no_entry → b ≡ false) → {l k : ℕ} {y : Bytes} {fs : List (Field l)} (n : Bytes) → Stands w row y → name ≡ part text_bytes n

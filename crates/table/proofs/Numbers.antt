@@ -4,8 +4,6 @@ use mathlib.Core.List.{[], ◌∷◌, ◌++◌}
 use Prim.Native.Nat.{ℕ, ◌+◌, ◌*◌, ◌/◌, ◌%◌, ◌<◌}
 use native.Mathlib.Omega.{arith}
 use lib.ListN.{length, get_or}
-use Rattle.std.specs.List.{slice_range}
-use Rattle.std.proofs.lemmas.Grind.{common_steps}
 use Rattle.model.specs.Bytes.{Bytes}
 use Rattle.walk.specs.Stands.{Stands}
 use Rattle.walk.proofs.Standing.{byte_stands, second_stands}
@@ -34,7 +32,3 @@ three_stands {w} {place} n b h st =
     let e : place + 1 + 1 ≡ place + 2 = omega arith in
     let z2 = ap (λ i. get_or w i 0) (sym e) ∙ z in
     omega (arith, x, y, z2, digits n h)
-
--- a byte of what is left of the table
-pub rest_read : (w : Bytes) (place i j : ℕ) {q : Bytes} → q ≡ slice_range w place (length w) → place + i ≡ j → j < length w → get_or q i 0 ≡ get_or w j 0
-rest_read w place i j e k h = rw e (grind (arith, common_steps))

@@ -20,6 +20,10 @@ StepsOver w place levels r next =
     MatchOption r ((next ≡ place) × NoEntry w place levels)
     (λ x. (x ≡ place) × (get_or w place 0 ≢ no_entry) × (place < length w) × (place < next) × SkipsEntries w place levels next)
 
+-- what a look at the next entry gives: where it stands, or nothing, where none does
+abbrev pub PeeksEntry : EntryRow → Option ℕ → Type 0
+PeeksEntry s r = MatchOption r (NoEntry s.w.now s.at s.levels) (λ x. (x ≡ s.at) × (get_or s.w.now s.at 0 ≢ no_entry) × (s.at < length s.w.now))
+
 -- what a call of `next` gives
 abbrev pub GivesEntry : EntryRow → Option ℕ → EntryRow → Type 0
 GivesEntry s r t = (t.w.now ≡ s.w.now) × (t.levels ≡ s.levels) × StepsOver s.w.now s.at s.levels r t.at

@@ -1,6 +1,7 @@
 // The schema merged so far, as a table in the work buffer: reading it, editing it in place, and looking up a name. Document 01, "What must
 // change shape": "`Arc`, `Vec`, `Box` trees: work on sheet bytes with a cursor, or node tables in arrays." What the bytes mean is in
-// specs/Table.antt. The functions take any bytes and any places; where the parts that they are for stand there, they do what they say.
+// specs/Table.antt. The functions take any bytes and any places, and a `Table` any number of bytes in use; where the parts that they are for
+// stand there, they do what they say.
 #![tactic(auto)]
 
 ghost use Rattle.std.specs.Prelude.{◌≡◌, List, [], ◌∷◌, ◌++◌, ℕ, suc, ◌+◌, ◌*◌, ◌/◌, ◌%◌, ◌≤◌, ◌<◌, length, take, drop, get_or, false, cond, ◌||◌, eqb};
@@ -11,7 +12,7 @@ ghost use Rattle.buffer.specs.Buffer.{pasted};
 ghost use Rattle.walk.specs.Stands.{Stands, Skips};
 ghost use Rattle.table.specs.Table.{three, kind_of, u24, no_place, no_entry, places_bytes, SpellField, SpellType, SpellRow};
 ghost use Rattle.table.specs.Look.{NamesPlace, SkipsPlaces, SkipsHead, NamesEntry, Cut, Finds};
-ghost use Rattle.table.specs.Entries.{SkipsEntries};
+ghost use Rattle.table.specs.Entries.{SkipsEntries, PeeksEntry};
 ghost use Rattle.table.specs.Opened.{InsertsEntry, OpensRow, OpensList};
 ghost use Rattle.table.specs.Edits.{Overwrites, SetsByte, TakesType, Inserts, InsertsPlace};
 ghost use Rattle.table.specs.Edited.{Rewrites, Edits};
@@ -195,6 +196,16 @@ impl<'a> EntryRow<'a> {
     {
         EntryRow { w, at, levels }
     }
+
+    // The place of the entry that `next` gives, before it is passed: a look-up stops at the entry that it finds, and walks none of it.
+    pub fn peek(&self) -> Option<usize>
+        ensures { PeeksEntry self.now result }
+    {
+        if self.w.len() <= self.at || walk::byte(self.w, self.at) == NO_ENTRY {
+            return None;
+        }
+        Some(self.at)
+    }
 }
 
 impl Iterator for EntryRow<'_> {
@@ -210,10 +221,7 @@ impl Iterator for EntryRow<'_> {
 
     // An entry is not empty: where none is passed, none stands.
     fn next(&mut self) -> Option<usize> {
-        let place = self.at;
-        if self.w.len() <= place || walk::byte(self.w, place) == NO_ENTRY {
-            return None;
-        }
+        let place = self.peek()?;
         let behind = next_entry(self.w, place, self.levels);
         if behind <= place {
             return None;
@@ -223,15 +231,22 @@ impl Iterator for EntryRow<'_> {
     }
 }
 
-// The place of the train that stands behind one byte: that of an entry's first occurrence behind its flags, and a type's behind its kind. By
-// one test of the room: a row may have thousands of entries, and the look-up of a name reads the place of each.
+// The place of the train that stands behind one byte: that of an entry's first occurrence behind its flags, and a type's behind its kind. A
+// row may have thousands of entries, and the look-up of a name reads the place of each, behind `peek`, which made the first test.
 pub fn place_at(w: &[u8], at: usize) -> usize
     ensures { NamesPlace w.now at result × (result < 16777216) }
 {
-    match w.get(at..) {
-        Some([_, a, b, c, ..]) => u32::from_le_bytes([*a, *b, *c, 0]) as usize,
-        _ => 0,
+    if w.len() <= at || w.len() - at < 4 {
+        return 0;
     }
+    u32::from_le_bytes([w[at + 1], w[at + 2], w[at + 3], 0]) as usize
+}
+
+// The code of the type whose entry stands at a place.
+pub fn code_at(s: &[u8], w: &[u8], at: usize) -> usize
+    ensures { (l : ℕ) (first : DataType (suc l)) (k : ℕ) (y : Bytes) (a : DataType (suc l)) → SpellType (suc l) s.now first k y a → Stands w.now at y → result ≡ a.code }
+{
+    walk::byte(s, place_at(w, at))
 }
 
 // Whether the entry that stands at a place of the table has a name, which is given as `name_of` gives one.
@@ -253,10 +268,35 @@ fn scan(s: &[u8], w: &[u8], row: usize, name: &[u8], levels: usize) -> Result<us
     ensures { (l k : ℕ) (y : Bytes) (fs : List (Field l)) (n : Bytes) → l ≤ levels → SpellRow l s.now k y fs → Stands w.now row y → name.now ≡ part text_bytes n → Finds l s.now row k y fs n result }
 {
     let mut entries = EntryRow::new(w, row, levels);
-    let named = |place: &usize|
-        ensures { NamesEntry s.entry.now w.entry.now place.now name.entry.now result }
-    { has_entry_name(s, w, *place, name) };
-    entries.find(named).ok_or(entries.at)
+    while let Some(place) = entries.peek() {
+        if has_entry_name(s, w, place, name) {
+            return Ok(place);
+        }
+        if entries.next().is_none() {
+            return Err(place);
+        }
+    }
+    Err(entries.at)
+}
+
+// The look-up of the merge: `SchemaBuilder::try_merge` looks for the first field of a name; no two entries of a row have one, so any is the
+// first. Names that come in the order of the row are found at the hint, the place behind the entry that was found last. It gives the entry's
+// place, or, as `binary_search` does, the one where such an entry goes: the row's end.
+pub fn find(
+    s: &[u8],
+    w: &[u8],
+    row: usize,
+    hint: usize,
+    q: usize,
+    levels: usize,
+) -> Result<usize, usize>
+    ensures { (l k : ℕ) (y : Bytes) (fs : List (Field l)) (g : Head) → l ≤ levels → SpellRow l s.now k y fs → Stands w.now row y → Stands s.now q (head_bytes g) → Cut l s.now row k y fs hint → Finds l s.now row k y fs g.name result }
+{
+    let name = name_of(s, q);
+    if is_named(s, w, hint, name) {
+        return Ok(hint);
+    }
+    scan(s, w, row, name, levels)
 }
 
 // The schema merged so far: the first `used` bytes of the work buffer, which name places of the train.
@@ -273,11 +313,26 @@ impl<'a> Table<'a> {
         ensures same_reference { result.w.ghost_name ≡ w.entry.ghost_name }
         ensures empty { (result.train.now ≡ train.now) × (result.w.now ≡ w.old) × (result.used ≡ 0) }
     {
-        Table { train, w, used: 0 }
+        Self::with_used(train, w, 0)
+    }
+
+    // Of which so many bytes are in use.
+    pub fn with_used(train: &'a [u8], w: &'a mut [u8], used: usize) -> Self
+        ensures same_reference { result.w.ghost_name ≡ w.entry.ghost_name }
+        ensures holds { (result.train.now ≡ train.now) × (result.w.now ≡ w.old) × (result.used ≡ used) }
+    {
+        Table { train, w, used }
     }
 }
 
 impl Table<'_> {
+    // How many bytes of the buffer are in use.
+    pub fn used(&self) -> usize
+        ensures { result ≡ self.now.used }
+    {
+        self.used
+    }
+
     // A byte of the table. Those past its end are 0.
     pub fn byte(&self, at: usize) -> usize
         ensures { (result ≡ get_or self.now.w.now at 0) × (result < 256) }
@@ -317,7 +372,7 @@ impl Table<'_> {
     pub fn code_at(&self, at: usize) -> usize
         ensures { (l : ℕ) (first : DataType (suc l)) (k : ℕ) (y : Bytes) (a : DataType (suc l)) → SpellType (suc l) self.now.train.now first k y a → Stands self.now.w.now at y → result ≡ a.code }
     {
-        walk::byte(self.train, self.place_at(at))
+        code_at(self.train, self.w, at)
     }
 
     // The row of places that begins at a place of the table.
@@ -348,21 +403,15 @@ impl Table<'_> {
         next_entry(self.w, at, levels)
     }
 
-    // The look-up of the merge: `SchemaBuilder::try_merge` looks for the first field of a name; no two entries of a row have one, so any is the
-    // first. Names that come in the order of the row are found at the hint, the place behind the entry that was found last. It gives the entry's
-    // place, or, as `binary_search` does, the one where such an entry goes: the row's end.
+    // The place of the entry that has the name of a field of the train, or the row's end.
     pub fn find(&self, row: usize, hint: usize, q: usize, levels: usize) -> Result<usize, usize>
         ensures { (l k : ℕ) (y : Bytes) (fs : List (Field l)) (g : Head) → l ≤ levels → SpellRow l self.now.train.now k y fs → Stands self.now.w.now row y → Stands self.now.train.now q (head_bytes g) → Cut l self.now.train.now row k y fs hint → Finds l self.now.train.now row k y fs g.name result }
     {
-        let name = name_of(self.train, q);
-        if is_named(self.train, self.w, hint, name) {
-            return Ok(hint);
-        }
-        scan(self.train, self.w, row, name, levels)
+        find(self.train, self.w, row, hint, q, levels)
     }
 
     // Writes bytes over as many that stand at a place.
-    fn overwrite(&mut self, at: usize, v: &[u8])
+    pub fn overwrite(&mut self, at: usize, v: &[u8])
         ensures { Rewrites (λ _. Overwrites at v.now) self.old self.new }
     {
         if self.w.len() < at || self.w.len() - at < v.len() {
@@ -386,14 +435,16 @@ impl Table<'_> {
         self.overwrite(at, &[Kind::Raw as u8, a, b, c]);
     }
 
-    // Puts bytes in at a place: what is in use behind it moves on.
+    // Puts bytes in at a place: what is in use behind it moves on. It moves within the part that begins at the place: the compiler makes a
+    // `memmove` of that, and a slow loop of the same move within the whole buffer.
     pub fn insert(&mut self, at: usize, v: &[u8])
         ensures { Edits (λ _. Inserts at v.now) self.old self.new }
     {
         if self.used < at || self.w.len() < self.used || self.w.len() - self.used < v.len() {
             return;
         }
-        self.w.copy_within(at..self.used, at + v.len());
+        let behind = self.used - at;
+        self.w[at..].copy_within(..behind, v.len());
         self.w[at..at + v.len()].copy_from_slice(v);
         self.used += v.len();
     }

@@ -1,12 +1,12 @@
 -- `ids_differ`: of each child, whether one behind it has its id.
 use native.Mathlib.Omega.{arith}
-use mathlib.Core.Path.{ap}
+use mathlib.Core.Path.{refl, ap}
 use lib.ListN.{length}
 use Rattle.members.proofs.Searching.{differ_begin, differ_end, differ_stop, differ_on}
 use Rattle.members.proofs.ids_differ.Goals as goal
 
 pub loop-there-init : goal.loop-there-init
-loop-there-init c = let n = c.places-behind.ensures in (n.0, differ_begin n.1)
+loop-there-init c = (refl, differ_begin refl)
 
 pub loop-there-preserved : goal.loop-there-preserved
 loop-there-preserved c = differ_on c.loop-there.behind c.next.new.self c.loop-there.invariant c.in-Some.ensures.steps c.byte.ensures.0 c.has_id.ensures c.if-has_id.false

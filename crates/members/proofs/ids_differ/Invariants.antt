@@ -6,7 +6,7 @@ use Rattle.members.proofs.Searching.{Differing}
 use Rattle.members.proofs.ids_differ.Given as goal
 
 abbrev pub invariant-loop-there : goal.invariant-loop-there
-invariant-loop-there l = (l.behind.w.now ≡ l.table.w.now) × Differing l.table.train.now l.table.w.now l.row l.behind.at
+invariant-loop-there l = (l.behind.w.now ≡ l.row.w.now) × Differing l.s l.row.w.now l.row.at l.behind.at
 
 abbrev pub decreases-loop-there : goal.decreases-loop-there
-decreases-loop-there l = length l.table.w.now - l.behind.at
+decreases-loop-there l = length l.row.w.now - l.behind.at

@@ -16,7 +16,7 @@ returns-then-ids_differ c =
     let o = c.open_union.ensures in
     let m = c.merge_members.ensures in
     let (same, many) = merges_on o.same m in
-    let tells = rw same.train at c.ids_differ.ensures in
+    let tells = rw (c.places.ensures.0, c.places.ensures.1, same.train) at c.ids_differ.ensures in
     record { same = same; is = union_done o.same.size o.is c.ahead-row.ensures c.find_children-children.ensures many (went m c.in_ok-merge_members.was) tells c.if-ids_differ.true }
 
 pub returns : goal.returns
@@ -24,5 +24,5 @@ returns c =
     let o = c.open_union.ensures in
     let m = c.merge_members.ensures in
     let (same, many) = merges_on o.same m in
-    let tells = rw same.train at c.ids_differ.ensures in
+    let tells = rw (c.places.ensures.0, c.places.ensures.1, same.train) at c.ids_differ.ensures in
     record { same = same; is = union_clash o.same.size o.is c.ahead-row.ensures c.find_children-children.ensures many (went m c.in_ok-merge_members.was) tells c.if-ids_differ.false }

@@ -1,6 +1,0 @@
--- `Table::code_at`: the code at the place in the entry.
-use Rattle.table.proofs.Types.{code_of}
-use Rattle.table.proofs.Table.code_at.Goals as goal
-
-pub returns : goal.returns
-returns c = code_of c.place_at.ensures c.byte.ensures.0
