@@ -1,5 +1,5 @@
 -- A buffer that is written over: its length, nothing written, one stretch behind another, a store, a turn of a copying loop.
-use mathlib.Core.Path.{◌≡◌, sym, ap, ◌∙◌}
+use mathlib.Core.Path.{◌≡◌, refl, sym, ap, ◌∙◌}
 use mathlib.Core.List.{[], ◌∷◌, ◌++◌, append_assoc}
 use Prim.Native.Nat.{ℕ, ◌+◌, ◌≤◌, ◌<◌}
 use native.Mathlib.Nat.{add-zero, add_assoc, zero-add}
@@ -56,6 +56,20 @@ pub pasted_snoc : (d : Bytes) (i : ℕ) (s : Bytes) (v j : ℕ) → i + length s
 pasted_snoc d i s v j e h =
     pasted_byte (pasted d i s) j v (rw (length_pasted d i s (omega arith)) h)
     ∙ pasted_join d i s (v ∷ []) j e (omega arith)
+
+-- one store, and two, for a stretch that is as long
+pub pasted_one : (d : Bytes) (i : ℕ) (s : Bytes) → 1 ≤ length s → length s < 2 → i + length s ≤ length d → set d i (get_or s 0 0) ≡ pasted d i s
+pasted_one d i [] h k l = absurd (omega (arith, h))
+pasted_one d i (a ∷ []) h k l = pasted_byte d i a (omega (arith, l))
+pasted_one d i (a ∷ b ∷ s) h k l = absurd (omega (arith, k))
+
+pub pasted_two : (d : Bytes) (i : ℕ) (s : Bytes) → 2 ≤ length s → length s < 3 → i + length s ≤ length d
+    → set (set d i (get_or s 0 0)) (i + 1) (get_or s 1 0) ≡ pasted d i s
+pasted_two d i [] h k l = absurd (omega (arith, h))
+pasted_two d i (a ∷ []) h k l = absurd (omega (arith, h))
+pasted_two d i (a ∷ b ∷ []) h k l =
+    ap (λ w. set w (i + 1) b) (pasted_byte d i a (omega (arith, l))) ∙ pasted_snoc d i (a ∷ []) b (i + 1) refl (omega (arith, l))
+pasted_two d i (a ∷ b ∷ c ∷ s) h k l = absurd (omega (arith, k))
 
 -- a turn of a loop that writes s over d from i: w is the buffer before, j elements are written
 pub copy_turn : (d : Bytes) (i : ℕ) (s : Bytes) (j : ℕ) (w : Bytes) → w ≡ pasted d i (take j s) → j < length s → i + length s ≤ length d

@@ -63,12 +63,19 @@ pub fn clear(w: &mut [u8])
     w.fill(0);
 }
 
-// Writes src over dst from index at.
+// Writes src over dst from index at. One byte or two, as a field's map and its type often are, take less than the library's call.
 pub fn copy_in(dst: &mut [u8], at: usize, src: &[u8])
     requires { at + length src.now ≤ length dst.old }
     ensures { dst.new ≡ pasted dst.old at src.now }
 {
-    dst[at..at + src.len()].copy_from_slice(src);
+    match src {
+        [a] => dst[at] = *a,
+        [a, b] => {
+            dst[at] = *a;
+            dst[at + 1] = *b;
+        }
+        _ => dst[at..at + src.len()].copy_from_slice(src),
+    }
 }
 
 // The two lower bytes of a number, the lower one first.

@@ -138,7 +138,14 @@ pub fields_way : (r : Step) (s : Bytes) (lim l n at : ℕ) → r ≡ step_of (re
 unfolding read_children
 fields_way r s lim l n at h = h
 
--- one field is read as that field alone
+-- no field is no byte, one field is read as that field alone
+pub no_children : (s : Bytes) (lim l at : ℕ) → Ok at ≡ step_of (read_children s lim l (read_type s lim l) (fields 0) at)
+unfolding read_children read_many
+no_children s lim l at = refl
+
+pub no_field_way : (s : Bytes) (lim l n at : ℕ) → n ≡ 0 → Ok at ≡ step_of (read_children s lim l (read_type s lim l) (fields n) at)
+no_field_way s lim l n at e = no_children s lim l at ∙ ap (λ k. step_of (read_children s lim l (read_type s lim l) (fields k) at)) (sym e)
+
 
 pub one_child : (r : Step) (s : Bytes) (lim l at : ℕ) → r ≡ step_of (read_field s lim l (read_type s lim l) 0 at) → r ≡ step_of (read_children s lim l (read_type s lim l) (fields 1) at)
 unfolding read_children read_many next

@@ -326,7 +326,11 @@ impl<'a> Reader<'a> {
         let Ok(body) = head else {
             return head;
         };
-        self.read_type(body, map / 2 % 2 == 1, levels)
+        let read = self.read_type(body, map / 2 % 2 == 1, levels);
+        let Ok(end) = read else {
+            return read;
+        };
+        Ok(end)
     }
 
     // A type, with so many levels left, itself among them; ordered where the field that holds it is.
@@ -356,7 +360,11 @@ impl<'a> Reader<'a> {
         let Ok(next) = read else {
             return read;
         };
-        self.read_children(next, code, levels)
+        let children = self.read_children(next, code, levels);
+        let Ok(end) = children else {
+            return children;
+        };
+        Ok(end)
     }
 
     // The children of a type. Of one field, as a list has, no loop is begun: a row of lists is read in two thirds of the time.
@@ -365,6 +373,7 @@ impl<'a> Reader<'a> {
         ensures { numbered result ≡ step_of (read_children self.now.bytes.now self.now.limit levels (read_type self.now.bytes.now self.now.limit levels) (layout code).children at) }
     {
         match layout::children(code) {
+            ChildrenKind::Fields(0) => Ok(at),
             ChildrenKind::Fields(1) => self.read_field(at, levels),
             ChildrenKind::Fields(count) => self.read_fields(at, count, levels),
             ChildrenKind::KeyAndValue => self.read_dictionary(at, levels),

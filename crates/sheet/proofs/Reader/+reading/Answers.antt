@@ -1,7 +1,8 @@
 use Rattle.std.proofs.Math.Nat.{sub-add-eq}
+use mathlib.Core.Path.{sym, ◌∙◌}
 use native.Mathlib.Nat.{sub-zero}
 use Rattle.sheet.proofs.Ways.{ways, told_ok, told_err, item_stop, number_stop}
-use Rattle.sheet.proofs.TreeWays.{field_way, type_way, children_way, fields_way, one_field_way, dictionary_way, many_done, many_stop, many_again}
+use Rattle.sheet.proofs.TreeWays.{field_way, type_way, children_way, fields_way, no_field_way, one_field_way, dictionary_way, many_done, many_stop, many_again}
 use Rattle.sheet.proofs.Members.{members_begin, members_done, members_id_stop, members_field_stop, members_again, id_small}
 use native.Mathlib.Omega.{arith}
 use Rattle.model.specs.Bytes.{bit}
@@ -9,6 +10,10 @@ use Rattle.model.specs.Read.{read_children, read_list}
 use Rattle.layout.specs.Kinds.{children_of}
 use Rattle.sheet.specs.Shapes.{read_shape, no_ids}
 use Rattle.sheet.proofs.Reader.+reading.Goals as goal
+
+pub read_children-returns-in-Fields-eq0 : goal.read_children-returns-in-Fields-eq0
+unfolding children_of
+read_children-returns-in-Fields-eq0 t c = children_way _ _ _ _ _ _ _ c.in-Fields-eq0.ensures (no_field_way _ _ _ _ _ c.in-Fields-eq0.field-0-test)
 
 pub read_children-returns-in-Fields-eq1 : goal.read_children-returns-in-Fields-eq1
 unfolding children_of
@@ -52,9 +57,13 @@ pub read_field-returns-in_default : goal.read_field-returns-in_default
 unfolding bit
 read_field-returns-in_default t c = search (field_way, ways, c.in_ok-map.was, c.if-levels-eq0.false) depth 12
 
+pub read_field-returns-in_default-read : goal.read_field-returns-in_default-read
+unfolding bit
+read_field-returns-in_default-read t c = search (field_way, ways, c.in_ok-map.was, c.if-levels-eq0.false) depth 12
+
 pub read_field-returns : goal.read_field-returns
 unfolding bit
-read_field-returns t c = search (field_way, ways, c.in_ok-map.was, c.if-levels-eq0.false) depth 12
+read_field-returns t c = sym (told_ok c.in-Ok-read.is) ∙ search (field_way, ways, c.in_ok-map.was, c.if-levels-eq0.false) depth 12
 
 pub read_fields-returns-in_default : goal.read_fields-returns-in_default
 read_fields-returns-in_default t c = many_stop _ _ _ _ c.loop.invariant (omega (arith, c.loop-test.true)) _ c.read_field-got.ensures _ _ (told_err c.in_default.is)
@@ -90,9 +99,13 @@ pub read_shape-returns-in_default : goal.read_shape-returns-in_default
 unfolding read_shape
 read_shape-returns-in_default t c = search ways depth 8
 
+pub read_shape-returns-in_default-children : goal.read_shape-returns-in_default-children
+unfolding read_shape
+read_shape-returns-in_default-children t c = search ways depth 8
+
 pub read_shape-returns : goal.read_shape-returns
 unfolding read_shape
-read_shape-returns t c = search ways depth 8
+read_shape-returns t c = sym (told_ok c.in-Ok-children.is) ∙ search ways depth 8
 
 pub read_struct-returns-in_err-count : goal.read_struct-returns-in_err-count
 unfolding read_children read_list
