@@ -1,2 +1,3 @@
--- The law that the proof of `Operation::call` uses.
+-- The laws that the proofs of `Operation::call` and of the functions that read use.
 mod Kept
+mod Reading

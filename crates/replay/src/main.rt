@@ -20,7 +20,7 @@ mod operation;
 use buffer::{Number, Outcome};
 use operation::{Operation, Request};
 use std::io;
-use std::io::{ErrorKind, Read};
+use std::io::Read;
 
 // What stands behind the last request.
 const LAST: u8 = 255;
@@ -42,16 +42,16 @@ fn settled(outcome: Outcome, told: Outcome, given: &[u8], work: &[u8], answer: &
 }
 
 // Whether the call of the list's next request agrees. The buffers are filled with a pattern before it, so that a byte written is seen.
-fn agrees(input: &mut impl Read, operation: Operation) -> io::Result<bool> {
-    let number = list::next_u16(input)?;
+fn agrees(input: &mut impl Read, operation: Operation) -> bool {
+    let number = list::next_u16(input);
     let (mut work, mut answer) = ([0; WORK_SPACE], [0; SPACE]);
-    let work = list::next_room(input, &mut work)?;
-    let answer = list::next_room(input, &mut answer)?;
+    let work = list::next_room(input, &mut work);
+    let answer = list::next_room(input, &mut answer);
     let (mut first, mut second, mut given) = ([0; SPACE], [0; SPACE], [0; SPACE]);
-    let first = list::next_bytes(input, &mut first)?;
-    let second = list::next_bytes(input, &mut second)?;
-    let (told_number, place) = (list::next_u8(input)?, list::next_usize(input)?);
-    let given = list::next_bytes(input, &mut given)?;
+    let first = list::next_bytes(input, &mut first);
+    let second = list::next_bytes(input, &mut second);
+    let (told_number, place) = (list::next_u8(input), list::next_usize(input));
+    let given = list::next_bytes(input, &mut given);
     let told = Outcome {
         number: told_number,
         place,
@@ -65,13 +65,13 @@ fn agrees(input: &mut impl Read, operation: Operation) -> io::Result<bool> {
         number,
     };
     let answered = operation.call(request, work, answer);
-    Ok(settled(Outcome::from(answered), told, given, work, answer))
+    settled(Outcome::from(answered), told, given, work, answer)
 }
 
-// The next requests of one operation, in order, to the first that does not agree: how many agree. One that the list ends inside does not.
+// The next requests of one operation, in order, to the first that does not agree: how many agree.
 fn requests(input: &mut impl Read, operation: Operation, count: u16) -> u16 {
     for agreed in 0..count {
-        if !agrees(input, operation).unwrap_or(false) {
+        if !agrees(input, operation) {
             return agreed;
         }
     }
@@ -80,7 +80,7 @@ fn requests(input: &mut impl Read, operation: Operation, count: u16) -> u16 {
 
 // The requests of one operation: whether all agree. A line says how many.
 fn replay(rt: &impl Print, input: &mut impl Read, operation: Operation) -> io::Result<bool> {
-    let count = list::next_u16(input).unwrap_or(0);
+    let count = list::next_u16(input);
     let agreed = requests(input, operation, count);
     println!(rt; "{operation}: {agreed}")?;
     if agreed < count {
@@ -104,7 +104,7 @@ fn main(rt: HostRuntime) -> io::Result<()> {
     if !replay_all(&rt, &mut input)? {
         return Ok(());
     }
-    let last = list::next_u8(&mut input).unwrap_or(0);
+    let last = list::next_u8(&mut input);
     if last == LAST && input.read_exact(&mut [0]).is_err() {
         println!(rt; "all agree")
     } else {
