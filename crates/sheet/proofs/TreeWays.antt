@@ -146,7 +146,6 @@ no_children s lim l at = refl
 pub no_field_way : (s : Bytes) (lim l n at : ℕ) → n ≡ 0 → Ok at ≡ step_of (read_children s lim l (read_type s lim l) (fields n) at)
 no_field_way s lim l n at e = no_children s lim l at ∙ ap (λ k. step_of (read_children s lim l (read_type s lim l) (fields k) at)) (sym e)
 
-
 pub one_child : (r : Step) (s : Bytes) (lim l at : ℕ) → r ≡ step_of (read_field s lim l (read_type s lim l) 0 at) → r ≡ step_of (read_children s lim l (read_type s lim l) (fields 1) at)
 unfolding read_children read_many next
 one_child r s lim l at h = h ∙ sym (step_made (λ f. f ∷ []) (read_field s lim l (read_type s lim l) 0 at))
