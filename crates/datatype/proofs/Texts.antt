@@ -94,7 +94,7 @@ module _ {s t : Bytes} {a b map other : ℕ} {n m : Bool} (e : map ≡ get_or s 
 
 -- Metadata under a bit
 
--- what `pairs_if` ensures
+-- what `counted_if` of walk gives of pairs
 abbrev PairsIf : Bytes → ℕ → Bool → ℕ → ℕ → Type 0
 PairsIf s place set n first = (m : Metadata) → stands m ≡ set → Stands s place (part (with_count pair_bytes) m) → PairsAt s m n first
 

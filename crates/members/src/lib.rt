@@ -1,6 +1,6 @@
 // Document 01, module 4, the merge of unions: `UnionFields::try_merge` of fields.rs, in the table of the work buffer. A union in the table has a
-// row of places, at each of which one of its children stands in the train. The functions take any bytes and any places; where the parts that they are for stand there, of at most so many levels, they do what
-// the definitions of specs/Claims.antt say.
+// row of places, at each of which one of its children stands in the train. The functions take any bytes and any places; where the parts that
+// they are for stand there, of at most so many levels, they do what the definitions of specs/Claims.antt say.
 #![tactic(auto)]
 
 ghost use Rattle.std.specs.Prelude.{◌≡◌, get_or, eqb};

@@ -326,6 +326,8 @@ impl<'a> Reader<'a> {
         let Ok(body) = head else {
             return head;
         };
+        // What is handed up whole is copied just after it was written in parts, for which the processor waits: of a field that is read, the
+        // place alone is.
         let read = self.read_type(body, map / 2 % 2 == 1, levels);
         let Ok(end) = read else {
             return read;
@@ -367,7 +369,7 @@ impl<'a> Reader<'a> {
         Ok(end)
     }
 
-    // The children of a type. Of one field, as a list has, no loop is begun: a row of lists is read in two thirds of the time.
+    // The children of a type. Most types have none, and lists one: for these no loop is begun.
     #[cycle(reading)]
     fn read_children(&self, at: usize, code: usize, levels: usize) -> Result<usize, Refusal>
         ensures { numbered result ≡ step_of (read_children self.now.bytes.now self.now.limit levels (read_type self.now.bytes.now self.now.limit levels) (layout code).children at) }
