@@ -197,7 +197,7 @@ impl<'a> EntryRow<'a> {
         EntryRow { w, at, levels }
     }
 
-    // The place of the entry that `next` gives, before it is passed: a look-up stops at the entry that it finds, and walks none of it.
+    // The place of the entry that stands next, before it is passed: a look-up stops at the entry that it finds, and walks none of it.
     pub fn peek(&self) -> Option<usize>
         ensures { PeeksEntry self.now result }
     {
