@@ -1,5 +1,6 @@
-// Reading the stored list, one byte behind the other. Where it ends too early, or cannot be read, every byte is 0, and the answers differ;
-// bytes that pass the room for them are read and dropped.
+// Reading the stored list, one byte behind the other. Where it ends too early, or cannot be read, every byte is 0: no list that is cut counts
+// as whole, since the mark behind the last request is not 0. Bytes that pass the room for them are read and dropped, so that what stands
+// behind them is read from its place.
 ghost use Rattle.std.specs.Prelude.{◌^◌, ◌<◌, ◌≤◌, ◌≡◌, ℕ, List, [], ◌∷◌, length, take};
 ghost use Rattle.std.specs.Io.KnownBytes.{Consumes};
 ghost use Rattle.std.specs.Int.{to_le_bytes, w16, w32};
